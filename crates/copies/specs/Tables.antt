@@ -1,0 +1,156 @@
+-- The lower layer's tables, from "What the machine covers" in 01, as lists of numbers, and how they are read.
+-- Assumes nothing.
+use Prim.Native.Nat.{ℕ, _+_, _*_}
+use mathlib.Core.Bool.{Bool, cond}
+use mathlib.Core.List.{List}
+use lib.Dec.{eqb, ltb}
+use lib.ListN.{getD, length}
+use Rattle.words.specs.Numbers.{stationCount, seriesCount, placeCount, receivedCount, void}
+use Rattle.words.specs.Tests.{non, _and_, _or_, someBelow, leastBelow, countBelow}
+
+-- A column each: bounds of a series; copies; sent counts; Releases (receiver, kind, value); received numbers; stations' marks.
+pub record Copies : Type 0 where
+  pub firsts : List ℕ
+  pub lasts : List ℕ
+  pub kinds : List ℕ
+  pub values : List ℕ
+  pub sent : List ℕ
+  pub relTo : List ℕ
+  pub relKind : List ℕ
+  pub relValue : List ℕ
+  pub received : List ℕ
+  pub up : List ℕ
+
+abbrev pub tables : (firsts lasts kinds values sent relTo relKind relValue received up : List ℕ) → Copies
+tables fs ls ks vs ns rt rk rv gs us =
+    record { firsts = fs; lasts = ls; kinds = ks; values = vs; sent = ns; relTo = rt; relKind = rk; relValue = rv; received = gs; up = us }
+
+-- the tables with some columns replaced
+abbrev pub withBounds : Copies → (firsts lasts : List ℕ) → Copies
+withBounds t fs ls =
+    tables fs ls (t .kinds) (t .values) (t .sent) (t .relTo) (t .relKind) (t .relValue) (t .received) (t .up)
+
+abbrev pub withCopies : Copies → (kinds values : List ℕ) → Copies
+withCopies t ks vs =
+    tables (t .firsts) (t .lasts) ks vs (t .sent) (t .relTo) (t .relKind) (t .relValue) (t .received) (t .up)
+
+abbrev pub withReleases : Copies → (sent relTo relKind relValue : List ℕ) → Copies
+withReleases t ns rt rk rv = tables (t .firsts) (t .lasts) (t .kinds) (t .values) ns rt rk rv (t .received) (t .up)
+
+abbrev pub withReceived : Copies → (received : List ℕ) → Copies
+withReceived t gs =
+    tables (t .firsts) (t .lasts) (t .kinds) (t .values) (t .sent) (t .relTo) (t .relKind) (t .relValue) gs (t .up)
+
+abbrev pub withUp : Copies → (up : List ℕ) → Copies
+withUp t us =
+    tables (t .firsts) (t .lasts) (t .kinds) (t .values) (t .sent) (t .relTo) (t .relKind) (t .relValue) (t .received) us
+
+-- series times 8 plus station; that place times 8 plus sender
+abbrev pub place : ℕ → ℕ → ℕ
+place s n = s * stationCount + n
+
+abbrev pub receivedPlace : ℕ → ℕ → ℕ → ℕ
+receivedPlace s n m = place s n * stationCount + m
+
+-- refusal 1, of these tables: a column has fewer entries than its stated size
+unfoldable pub shortCopies : Copies → Bool
+shortCopies t =
+    ltb (length (t .firsts)) seriesCount
+    or ltb (length (t .lasts)) seriesCount
+    or ltb (length (t .kinds)) placeCount
+    or ltb (length (t .values)) placeCount
+    or ltb (length (t .sent)) placeCount
+    or ltb (length (t .relTo)) placeCount
+    or ltb (length (t .relKind)) placeCount
+    or ltb (length (t .relValue)) placeCount
+    or ltb (length (t .received)) receivedCount
+    or ltb (length (t .up)) stationCount
+
+-- What one station keeps of a series: its copy, how many transfers it has sent, its Release.
+pub record Kept : Type 0 where
+  pub kind : ℕ
+  pub value : ℕ
+  pub sent : ℕ
+  pub relTo : ℕ
+  pub relKind : ℕ
+  pub relValue : ℕ
+
+-- One series: its bounds, what each station keeps of it, and the highest number that a station has received from another.
+pub record Series : Type 0 where
+  pub first : ℕ
+  pub last : ℕ
+  pub kept : ℕ → Kept
+  pub received : ℕ → ℕ → ℕ
+
+abbrev pub keptAt : Copies → ℕ → ℕ → Kept
+keptAt t s n =
+    record {
+      kind = getD (t .kinds) (place s n) 0;
+      value = getD (t .values) (place s n) 0;
+      sent = getD (t .sent) (place s n) 0;
+      relTo = getD (t .relTo) (place s n) 0;
+      relKind = getD (t .relKind) (place s n) 0;
+      relValue = getD (t .relValue) (place s n) 0;
+    }
+
+abbrev pub seriesAt : Copies → ℕ → Series
+seriesAt t s =
+    record {
+      first = getD (t .firsts) s 0;
+      last = getD (t .lasts) s 0;
+      kept = λ n. keptAt t s n;
+      received = λ n m. getD (t .received) (receivedPlace s n m) 0;
+    }
+
+abbrev pub isUp : Copies → ℕ → Bool
+isUp t n = eqb (getD (t .up) n 0) 1
+
+-- a series is open when its first number isn't 0
+abbrev pub isOpen : Series → Bool
+isOpen r = non (eqb (r .first) 0)
+
+-- station n's copy: its kind and value, and whether it is held
+abbrev pub kind : Series → ℕ → ℕ
+kind r n = r .kept n .kind
+
+abbrev pub value : Series → ℕ → ℕ
+value r n = r .kept n .value
+
+abbrev pub held : Series → ℕ → Bool
+held r n = non (eqb (kind r n) void)
+
+-- station n's sent count, which is the number of its last transfer
+abbrev pub sentCount : Series → ℕ → ℕ
+sentCount r n = r .kept n .sent
+
+-- station n's Release: its receiver, kind and value; one stands when its kind isn't 0
+abbrev pub relTo : Series → ℕ → ℕ
+relTo r n = r .kept n .relTo
+
+abbrev pub relKind : Series → ℕ → ℕ
+relKind r n = r .kept n .relKind
+
+abbrev pub relValue : Series → ℕ → ℕ
+relValue r n = r .kept n .relValue
+
+abbrev pub stands : Series → ℕ → Bool
+stands r n = non (eqb (relKind r n) 0)
+
+-- the highest number that station n has received from station m
+abbrev pub received : Series → ℕ → ℕ → ℕ
+received r n m = r .received n m
+
+-- station n's transfer is undelivered: its Release stands, and the receiver's highest number from n is below the transfer's
+abbrev pub undelivered : Series → ℕ → Bool
+undelivered r n = stands r n and ltb (received r (relTo r n) n) (sentCount r n)
+
+-- how many copies held and transfers undelivered are of kind k
+unfoldable pub tokens : Series → ℕ → ℕ
+tokens r k =
+    countBelow stationCount (λ n. eqb (kind r n) k) + countBelow stationCount (λ n. undelivered r n and eqb (relKind r n) k)
+
+-- the series' next number: the value of the first copy held or, where none is, of the first transfer undelivered
+unfoldable pub next : Series → ℕ
+next r =
+    cond (someBelow stationCount (held r)) (value r (leastBelow stationCount (held r)))
+    (relValue r (leastBelow stationCount (undelivered r)))

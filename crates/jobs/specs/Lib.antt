@@ -1,0 +1,4 @@
+pub mod Job
+pub mod Slots
+pub mod Draws
+pub mod Whole

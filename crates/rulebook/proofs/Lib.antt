@@ -1,0 +1,4 @@
+pub mod Walked
+pub mod Computes
+pub mod Edges
+pub mod Damage

@@ -1,0 +1,80 @@
+-- "Around the step" in 01: the empty plant, and the holders of a series.
+-- Assumes nothing.
+use Prim.Native.Nat.{ℕ, _*_, _^_}
+use mathlib.Core.Bool.{cond}
+use lib.Dec.{leb}
+use lib.ListN.{replicate}
+use lib.Seq.{sets}
+use Rattle.words.specs.declared.Answer.{Answer}
+use Rattle.words.specs.declared.Answer.the-variants.{Done, Short, NotWhole, BadEvent, None}
+use Rattle.words.specs.Numbers.{stationCount, seriesCount, jobCount, placeCount, receivedCount}
+use Rattle.words.specs.Tests.{non, one, sumBelow, countBelow, leastBelow}
+use Rattle.copies.specs.Tables.{Series, seriesAt, isOpen, held}
+use Rattle.jobs.specs.Job.{noJob}
+use Rattle.rulebook.specs.declared.Holders.{Holders}
+use Rattle.rulebook.specs.Tables.{Plant, shortTables}
+use Rattle.rulebook.specs.Whole.{whole}
+use Rattle.rulebook.specs.Steps.{Effect, done, refused}
+
+-- An empty plant has no series, no jobs and all stations up.
+abbrev pub emptyPlant : Plant
+emptyPlant =
+    record {
+      copies = record {
+        firsts = replicate seriesCount 0;
+        lasts = replicate seriesCount 0;
+        kinds = replicate placeCount 0;
+        values = replicate placeCount 0;
+        sent = replicate placeCount 0;
+        relTo = replicate placeCount 0;
+        relKind = replicate placeCount 0;
+        relValue = replicate placeCount 0;
+        received = replicate receivedCount 0;
+        up = replicate stationCount 1;
+      };
+      jobs = replicate jobCount noJob;
+    }
+
+-- the empty plant written into lent tables, whose extra entries stay
+unfoldable pub emptied : Plant → Plant
+emptied p =
+    record {
+      copies = record {
+        firsts = sets (p .copies .firsts) 0 (replicate seriesCount 0);
+        lasts = sets (p .copies .lasts) 0 (replicate seriesCount 0);
+        kinds = sets (p .copies .kinds) 0 (replicate placeCount 0);
+        values = sets (p .copies .values) 0 (replicate placeCount 0);
+        sent = sets (p .copies .sent) 0 (replicate placeCount 0);
+        relTo = sets (p .copies .relTo) 0 (replicate placeCount 0);
+        relKind = sets (p .copies .relKind) 0 (replicate placeCount 0);
+        relValue = sets (p .copies .relValue) 0 (replicate placeCount 0);
+        received = sets (p .copies .received) 0 (replicate receivedCount 0);
+        up = sets (p .copies .up) 0 (replicate stationCount 1);
+      };
+      jobs = sets (p .jobs) 0 (replicate jobCount noJob);
+    }
+
+-- making one refuses only with 1
+unfoldable pub emptyOf : Plant → Effect
+emptyOf p = cond (shortTables p) (refused Short p) (done 0 (emptied p))
+
+-- The holders of a series: the station set, bit i for station i; the count; the lowest station, 8 if none
+abbrev pub holdersIn : Series → Holders
+holdersIn r =
+    record {
+      answer = Done 0;
+      set = sumBelow stationCount (λ n. one (held r n) * 2 ^ n);
+      count = countBelow stationCount (held r);
+      lowest = leastBelow stationCount (held r);
+    }
+
+abbrev pub noHolders : Answer → Holders
+noHolders a = record { answer = a; set = 0; count = 0; lowest = 0 }
+
+-- refusals 1, 2, 3 and 5, with all three 0
+unfoldable pub holdersOf : Plant → ℕ → Holders
+holdersOf p s =
+    cond (shortTables p) (noHolders Short)
+    (cond (non (whole p)) (noHolders NotWhole)
+    (cond (leb seriesCount s) (noHolders BadEvent)
+    (cond (non (isOpen (seriesAt (p .copies) s))) (noHolders None) (holdersIn (seriesAt (p .copies) s)))))

@@ -1,0 +1,9 @@
+pub mod Tables
+pub mod Whole
+pub mod Events
+pub mod Refusals
+pub mod Steps
+pub mod Around
+pub mod Run
+pub mod Edges
+pub mod Damage

@@ -1,0 +1,46 @@
+-- A run: the steps of a list of events, one after the other, from the empty plant.
+-- Assumes nothing.
+use Prim.Native.Nat.{ℕ, _*_}
+use mathlib.Core.Bool.{cond}
+use mathlib.Core.List.{List, [], _∷_, _++_}
+use lib.Dec.{eqb}
+use lib.ListN.{take, replicate}
+use Rattle.words.specs.declared.Answer.{Answer}
+use Rattle.words.specs.Answers.{valueOf}
+use Rattle.words.specs.Numbers.{outCount}
+use Rattle.jobs.specs.Draws.{Draw}
+use Rattle.rulebook.specs.declared.Event.{Event}
+use Rattle.rulebook.specs.Tables.{Plant}
+use Rattle.rulebook.specs.Events.{COMMIT}
+use Rattle.rulebook.specs.Steps.{Effect, Outcome, outcome, effect}
+use Rattle.rulebook.specs.Around.{emptyPlant}
+
+-- What an answer line shows: the answer, and after a COMMIT three numbers of the output for each of its draws.
+pub record Reply : Type 0 where
+  pub answer : Answer
+  pub numbers : List ℕ
+
+abbrev pub replyTo : Event → Outcome → Reply
+replyTo e o =
+    record { answer = o .answer; numbers = cond (eqb (e .kind) COMMIT) (take (3 * valueOf (o .answer)) (o .out)) [] }
+
+-- the replies and the committed draws, in order; the tables and the output at the end
+pub record Run : Type 0 where
+  pub replies : List Reply
+  pub draws : List Draw
+  pub plant : Plant
+  pub out : List ℕ
+
+abbrev pub before : Reply → List Draw → Run → Run
+before a ds r = record { replies = a ∷ r .replies; draws = ds ++ r .draws; plant = r .plant; out = r .out }
+
+-- one step, and the rest of the run from its outcome
+abbrev pub andThen : Event → List ℕ → Effect → (Plant → List ℕ → Run) → Run
+andThen e out x go = before (replyTo e (outcome out x)) (x .draws) (go (x .plant) (outcome out x .out))
+
+unfoldable pub runFrom : Plant → List ℕ → List Event → Run
+runFrom p out [] = record { replies = []; draws = []; plant = p; out = out }
+runFrom p out (e ∷ es) = andThen e out (effect p out e) (λ q next. runFrom q next es)
+
+unfoldable pub runOf : List Event → Run
+runOf es = runFrom emptyPlant (replicate outCount 0) es

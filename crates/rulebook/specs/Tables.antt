@@ -1,0 +1,22 @@
+-- "What the machine covers" in 01: the plant's tables, as the lower layer's and the job slots above them.
+-- Assumes nothing.
+use mathlib.Core.Bool.{Bool}
+use mathlib.Core.List.{List}
+use Rattle.words.specs.Tests.{_or_}
+use Rattle.copies.specs.Tables.{Copies, shortCopies}
+use Rattle.jobs.specs.declared.Job.{Job}
+use Rattle.jobs.specs.Slots.{shortJobs}
+
+pub record Plant : Type 0 where
+  pub copies : Copies
+  pub jobs : List Job
+
+abbrev pub withCopies : Plant → Copies → Plant
+withCopies p t = record { copies = t; jobs = p .jobs }
+
+abbrev pub withJobs : Plant → List Job → Plant
+withJobs p bs = record { copies = p .copies; jobs = bs }
+
+-- a table has fewer entries than its stated size
+unfoldable pub shortTables : Plant → Bool
+shortTables p = shortCopies (p .copies) or shortJobs (p .jobs)
