@@ -11,12 +11,15 @@ use Rattle.words.specs.Tests.{non, _and_, _or_, someBelow, countBelow}
 use Rattle.copies.specs.Tables.{Copies, withBounds, withCopies, withReleases, withReceived, withUp, Series, seriesAt, place, receivedPlace, kind, value, held, sentCount, relTo, relKind, relValue, stands, received, undelivered}
 
 -- ---- one copy, one Release
+-- the copy of series s at station n with another kind
 abbrev pub putKind : Copies → ℕ → ℕ → ℕ → Copies
 putKind t s n k = withCopies t (set (t .kinds) (place s n) k) (t .values)
 
+-- with another kind and value
 abbrev pub putCopy : Copies → ℕ → ℕ → ℕ → ℕ → Copies
 putCopy t s n k v = withCopies t (set (t .kinds) (place s n) k) (set (t .values) (place s n) v)
 
+-- the sent count and Release of station n for series s
 abbrev pub putRelease : Copies → ℕ → ℕ → ℕ → ℕ → ℕ → ℕ → Copies
 putRelease t s n number to k v =
     withReleases t (set (t .sent) (place s n) number) (set (t .relTo) (place s n) to) (set (t .relKind) (place s n) k)

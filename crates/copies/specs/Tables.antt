@@ -21,34 +21,40 @@ pub record Copies : Type 0 where
   pub received : List ℕ
   pub up : List ℕ
 
+-- the ten columns as one value
 abbrev pub tables : (firsts lasts kinds values sent relTo relKind relValue received up : List ℕ) → Copies
 tables fs ls ks vs ns rt rk rv gs us =
     record { firsts = fs; lasts = ls; kinds = ks; values = vs; sent = ns; relTo = rt; relKind = rk; relValue = rv; received = gs; up = us }
 
--- the tables with some columns replaced
+-- the tables with other bounds of series
 abbrev pub withBounds : Copies → (firsts lasts : List ℕ) → Copies
 withBounds t fs ls =
     tables fs ls (t .kinds) (t .values) (t .sent) (t .relTo) (t .relKind) (t .relValue) (t .received) (t .up)
 
+-- with other copies
 abbrev pub withCopies : Copies → (kinds values : List ℕ) → Copies
 withCopies t ks vs =
     tables (t .firsts) (t .lasts) ks vs (t .sent) (t .relTo) (t .relKind) (t .relValue) (t .received) (t .up)
 
+-- with other sent counts and Releases
 abbrev pub withReleases : Copies → (sent relTo relKind relValue : List ℕ) → Copies
 withReleases t ns rt rk rv = tables (t .firsts) (t .lasts) (t .kinds) (t .values) ns rt rk rv (t .received) (t .up)
 
+-- with other received numbers
 abbrev pub withReceived : Copies → (received : List ℕ) → Copies
 withReceived t gs =
     tables (t .firsts) (t .lasts) (t .kinds) (t .values) (t .sent) (t .relTo) (t .relKind) (t .relValue) gs (t .up)
 
+-- with other marks of stations
 abbrev pub withUp : Copies → (up : List ℕ) → Copies
 withUp t us =
     tables (t .firsts) (t .lasts) (t .kinds) (t .values) (t .sent) (t .relTo) (t .relKind) (t .relValue) (t .received) us
 
--- series times 8 plus station; that place times 8 plus sender
+-- where a series and a station stand: series times 8 plus station
 abbrev pub place : ℕ → ℕ → ℕ
 place s n = s * stationCount + n
 
+-- and a sender besides: that place times 8 plus sender
 abbrev pub receivedPlace : ℕ → ℕ → ℕ → ℕ
 receivedPlace s n m = place s n * stationCount + m
 
@@ -82,6 +88,7 @@ pub record Series : Type 0 where
   pub kept : ℕ → Kept
   pub received : ℕ → ℕ → ℕ
 
+-- what station n keeps of series s
 abbrev pub keptAt : Copies → ℕ → ℕ → Kept
 keptAt t s n =
     record {
@@ -93,6 +100,7 @@ keptAt t s n =
       relValue = getD (t .relValue) (place s n) 0;
     }
 
+-- series s
 abbrev pub seriesAt : Copies → ℕ → Series
 seriesAt t s =
     record {
@@ -102,6 +110,7 @@ seriesAt t s =
       received = λ n m. getD (t .received) (receivedPlace s n m) 0;
     }
 
+-- station n is up: its mark is 1
 abbrev pub isUp : Copies → ℕ → Bool
 isUp t n = eqb (getD (t .up) n 0) 1
 
@@ -109,13 +118,15 @@ isUp t n = eqb (getD (t .up) n 0) 1
 abbrev pub isOpen : Series → Bool
 isOpen r = non (eqb (r .first) 0)
 
--- station n's copy: its kind and value, and whether it is held
+-- the kind of station n's copy: void, share or exclusive
 abbrev pub kind : Series → ℕ → ℕ
 kind r n = r .kept n .kind
 
+-- the value of station n's copy, its next number
 abbrev pub value : Series → ℕ → ℕ
 value r n = r .kept n .value
 
+-- station n's copy is held: it isn't void
 abbrev pub held : Series → ℕ → Bool
 held r n = non (eqb (kind r n) void)
 
@@ -123,16 +134,19 @@ held r n = non (eqb (kind r n) void)
 abbrev pub sentCount : Series → ℕ → ℕ
 sentCount r n = r .kept n .sent
 
--- station n's Release: its receiver, kind and value; one stands when its kind isn't 0
+-- the receiver of station n's Release
 abbrev pub relTo : Series → ℕ → ℕ
 relTo r n = r .kept n .relTo
 
+-- the kind of station n's Release
 abbrev pub relKind : Series → ℕ → ℕ
 relKind r n = r .kept n .relKind
 
+-- the value of station n's Release
 abbrev pub relValue : Series → ℕ → ℕ
 relValue r n = r .kept n .relValue
 
+-- a Release stands when its kind isn't 0
 abbrev pub stands : Series → ℕ → Bool
 stands r n = non (eqb (relKind r n) 0)
 

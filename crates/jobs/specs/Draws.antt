@@ -16,13 +16,14 @@ pub record Draw : Type 0 where
   pub count : ℕ
   pub station : ℕ
 
--- the draws that locks have noted, in order of locking; the first serial is the copy's value
+-- the draws that locks at station n have noted, in order of locking; the first serial is the copy's value
 unfoldable pub drawsOn : Copies → ℕ → List Lock → List Draw
 drawsOn t n [] = []
 drawsOn t n (l ∷ ls) =
     cond (eqb (l .drawn) 0) (drawsOn t n ls)
     (record { series = l .series; first = value (seriesAt t (l .series)) n; count = l .drawn; station = n } ∷ drawsOn t n ls)
 
+-- the draws of a job, at its station
 unfoldable pub drawsOf : Copies → Job → List Draw
 drawsOf t b = drawsOn t (b .station) (b .locks)
 

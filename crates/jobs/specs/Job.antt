@@ -9,13 +9,15 @@ use Rattle.words.specs.Tests.{non, _and_, someBelow, leastBelow, allBelow}
 use Rattle.jobs.specs.declared.Lock.{Lock}
 use Rattle.jobs.specs.declared.Job.{Job}
 
--- an unused lock place, an unused job slot
+-- an unused lock place is zeros
 abbrev pub noLock : Lock
 noLock = record { series = 0; mode = 0; drawn = 0 }
 
+-- an unused job slot is zeros
 abbrev pub noJob : Job
 noJob = record { mark = 0; station = 0; locks = replicate lockCount noLock }
 
+-- the mark of an open job is 1
 abbrev pub jobOpen : Job → Bool
 jobOpen b = eqb (b .mark) 1
 
@@ -23,34 +25,40 @@ jobOpen b = eqb (b .mark) 1
 abbrev pub jobThere : Job → ℕ → Bool
 jobThere b n = jobOpen b and eqb (b .station) n
 
+-- the lock at place i
 abbrev pub lockAt : Job → ℕ → Lock
 lockAt b i = getD (b .locks) i noLock
 
--- place i is used; it locks series s
+-- place i is used: its mode isn't 0
 abbrev pub isUsed : Job → ℕ → Bool
 isUsed b i = non (eqb (lockAt b i .mode) 0)
 
+-- place i locks series s
 abbrev pub locksHere : Job → ℕ → ℕ → Bool
 locksHere b s i = isUsed b i and eqb (lockAt b i .series) s
 
--- the job locks series s; the place where it does, or 4; its lock there
+-- the job locks series s
 unfoldable pub locksSeries : Job → ℕ → Bool
 locksSeries b s = someBelow lockCount (locksHere b s)
 
+-- the place that locks series s, or 4
 unfoldable pub lockPlace : Job → ℕ → ℕ
 lockPlace b s = leastBelow lockCount (locksHere b s)
 
+-- the lock on series s
 abbrev pub lockOn : Job → ℕ → Lock
 lockOn b s = lockAt b (lockPlace b s)
 
--- the job has four locks; the first unused place, or 4
+-- the job has four locks
 unfoldable pub isFull : Job → Bool
 isFull b = allBelow lockCount (isUsed b)
 
+-- the first unused place, or 4
 unfoldable pub newPlace : Job → ℕ
 newPlace b = leastBelow lockCount (λ i. non (isUsed b i))
 
 -- ---- what its methods give back
+-- the job with another lock at place i
 abbrev pub putLock : Job → ℕ → Lock → Job
 putLock b i l = record { mark = b .mark; station = b .station; locks = set (b .locks) i l }
 

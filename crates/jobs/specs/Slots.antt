@@ -14,28 +14,32 @@ use Rattle.jobs.specs.declared.Job.{Job}
 unfoldable pub shortJobs : List Job → Bool
 shortJobs bs = ltb (length bs) jobCount
 
--- slot j; past the end of the slots, where no rule looks, a slot of zeros with no lock place
+-- past the end of the slots, where no rule looks, stands a slot of zeros with no lock place
 abbrev pub noSlot : Job
 noSlot = record { mark = 0; station = 0; locks = [] }
 
+-- slot j
 abbrev pub jobAt : List Job → ℕ → Job
 jobAt bs j = getD bs j noSlot
 
--- a job locks the copy of series s at station n; no job does: the copy is free
+-- the job locks the copy of series s at station n
 abbrev pub locksCopy : Job → ℕ → ℕ → Bool
 locksCopy b s n = jobThere b n and locksSeries b s
 
+-- "Free": no job locks the copy of series s at station n
 unfoldable pub free : List Job → ℕ → ℕ → Bool
 free bs s n = allBelow jobCount (λ j. non (locksCopy (jobAt bs j) s n))
 
--- CRASH: of the sixteen slots those of station n are closed; how many
+-- of the first k slots those of station n are closed
 unfoldable pub closeFirst : ℕ → ℕ → List Job → List Job
 closeFirst n zero bs = bs
 closeFirst n (suc k) [] = []
 closeFirst n (suc k) (b ∷ bs) = cond (jobThere b n) noJob b ∷ closeFirst n k bs
 
+-- CRASH: of the sixteen slots those of station n are closed
 unfoldable pub closedAt : ℕ → List Job → List Job
 closedAt n bs = closeFirst n jobCount bs
 
+-- the value of CRASH: how many are closed
 unfoldable pub countAt : ℕ → List Job → ℕ
 countAt n bs = countBelow jobCount (λ j. jobThere (jobAt bs j) n)

@@ -12,27 +12,30 @@ use Rattle.jobs.specs.declared.Job.{Job}
 use Rattle.jobs.specs.Job.{jobOpen, lockAt, isUsed, locksHere}
 use Rattle.jobs.specs.Slots.{jobAt, locksCopy}
 
--- W1 of a job: its mark, station, and each lock's series, mode and drawn count are in their ranges
+-- W1 of a lock place: series, mode and drawn count are in their ranges
 unfoldable pub W1lock : Lock → Bool
 W1lock l = ltb (l .series) seriesCount and leb (l .mode) exclusive and leb (l .drawn) greatestSerial
 
+-- W1 of a job slot: mark, station, and each lock place
 unfoldable pub W1job : Job → Bool
 W1job b = leb (b .mark) 1 and ltb (b .station) stationCount and allBelow lockCount (λ i. W1lock (lockAt b i))
 
--- W4 of lock i of job j, at the job's station and over the series that it locks
+-- W4 of an exclusive lock of job j at station n: an exclusive copy, no other job's lock on it, and a drawn count of at most last + 1 − value
 unfoldable pub W4exclusive : List Job → ℕ → Lock → Series → ℕ → Bool
 W4exclusive bs j l r n =
     eqb (kind r n) exclusive
     and allBelow jobCount (λ k. eqb k j or non (locksCopy (jobAt bs k) (l .series) n))
     and leb (l .drawn) (r .last + 1 - value r n)
 
+-- W4 of a share lock: a share copy, and no drawn count
 unfoldable pub W4share : Lock → Series → ℕ → Bool
 W4share l r n = eqb (kind r n) share and eqb (l .drawn) 0
 
--- no earlier lock of the job is on the same series
+-- W4: the locked series differ; no earlier lock of the job is on that of place i
 unfoldable pub W4differs : Job → ℕ → Bool
 W4differs b i = allBelow i (λ k. non (locksHere b (lockAt b i .series) k))
 
+-- W4 of lock place i of job j
 unfoldable pub W4lock : Copies → List Job → ℕ → ℕ → Bool
 W4lock t bs j i =
     let b : Job = jobAt bs j in
@@ -44,28 +47,31 @@ W4lock t bs j i =
     and (eqb (l .mode) exclusive ⇒ W4exclusive bs j l r (b .station))
     and (eqb (l .mode) share ⇒ W4share l r (b .station))
 
--- W4 of job j: at a station that is up, and each lock as above
+-- W4 of job j: an open job is at a station that is up
 unfoldable pub W4job : Copies → List Job → ℕ → Bool
 W4job t bs j =
     jobOpen (jobAt bs j) ⇒ isUp t (jobAt bs j .station) and allBelow lockCount (λ i. W4lock t bs j i)
 
--- W5 of a job: an unused lock place is zeros, with no used one after it; an unused slot is zeros
+-- W5 of lock place i: an unused one is zeros, with no used one after it
 unfoldable pub W5lock : Job → ℕ → Bool
 W5lock b i =
     isUsed b i
     or eqb (lockAt b i .series) 0 and eqb (lockAt b i .drawn) 0 and allBelow lockCount (λ k. leb k i or non (isUsed b k))
 
+-- W5 of a job slot: its lock places; an unused slot is zeros
 unfoldable pub W5job : Job → Bool
 W5job b =
     allBelow lockCount (λ i. W5lock b i)
     and (non (eqb (b .mark) 0) or eqb (b .station) 0 and allBelow lockCount (λ i. non (isUsed b i)))
 
--- The rules of all sixteen slots
+-- W1 of the sixteen slots
 unfoldable pub W1jobs : List Job → Bool
 W1jobs bs = allBelow jobCount (λ j. W1job (jobAt bs j))
 
+-- W4 of the sixteen slots
 unfoldable pub W4jobs : Copies → List Job → Bool
 W4jobs t bs = allBelow jobCount (λ j. W4job t bs j)
 
+-- W5 of the sixteen slots
 unfoldable pub W5jobs : List Job → Bool
 W5jobs bs = allBelow jobCount (λ j. W5job (jobAt bs j))

@@ -68,6 +68,7 @@ holdersIn r =
       lowest = leastBelow stationCount (held r);
     }
 
+-- a refusal, with all three 0
 abbrev pub noHolders : Answer → Holders
 noHolders a = record { answer = a; set = 0; count = 0; lowest = 0 }
 

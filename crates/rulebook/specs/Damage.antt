@@ -19,19 +19,21 @@ use Rattle.rulebook.specs.Steps.{accepted}
 use Rattle.rulebook.specs.Around.{emptyPlant}
 use Rattle.rulebook.specs.Edges.{event}
 
--- the numbers of the rules that tables break
+-- the rule's number where its test fails
 abbrev pub unless : Bool → ℕ → List ℕ
 unless test k = cond test [] (k ∷ [])
 
+-- the numbers of the rules that tables break
 unfoldable pub brokenRules : Plant → List ℕ
 brokenRules p = unless (W1 p) 1 ++ unless (W2 p) 2 ++ unless (W3 p) 3 ++ unless (W4 p) 4 ++ unless (W5 p) 5
 
--- The busy plant. Series 0, of 10 to 19, is exclusive at station 0, where job 0 locks it and has drawn 4. Series 1 is a share at
--- stations 0 and 1, and a third is under way from 0 to 2. Series 2 has gone from 0 to 1, and its Release still stands.
+-- the plant after the accepted steps of some events
 unfoldable pub after : Plant → List Event → Plant
 after p [] = p
 after p (e ∷ es) = after (accepted p e .plant) es
 
+-- The busy plant. Series 0, of 10 to 19, is exclusive at station 0, where job 0 locks it and has drawn 4. Series 1 is a share at
+-- stations 0 and 1, and a third is under way from 0 to 2. Series 2 has gone from 0 to 1, and its Release still stands.
 unfoldable pub busy : Plant
 busy =
     after emptyPlant
@@ -49,56 +51,72 @@ busy =
     ∷ event GRANT 2 0 1 1
     ∷ [])
 
--- one number changed
+-- a change of the lower layer's tables
 abbrev pub inCopies : (Copies → Copies) → Plant → Plant
 inCopies change p = plant.withCopies p (change (p .copies))
 
+-- another copy kind
 abbrev pub kindAs : ℕ → ℕ → ℕ → Copies → Copies
 kindAs s n k t = putKind t s n k
 
+-- another copy value
 abbrev pub valueAs : ℕ → ℕ → ℕ → Copies → Copies
 valueAs s n v t = withCopies t (t .kinds) (set (t .values) (place s n) v)
 
+-- another sent count
 abbrev pub sentAs : ℕ → ℕ → ℕ → Copies → Copies
 sentAs s n k t = withReleases t (set (t .sent) (place s n) k) (t .relTo) (t .relKind) (t .relValue)
 
+-- another receiver of a Release
 abbrev pub receiverAs : ℕ → ℕ → ℕ → Copies → Copies
 receiverAs s n to t = withReleases t (t .sent) (set (t .relTo) (place s n) to) (t .relKind) (t .relValue)
 
+-- another value of a Release
 abbrev pub relValueAs : ℕ → ℕ → ℕ → Copies → Copies
 relValueAs s n v t = withReleases t (t .sent) (t .relTo) (t .relKind) (set (t .relValue) (place s n) v)
 
+-- another received number
 abbrev pub receivedAs : ℕ → ℕ → ℕ → ℕ → Copies → Copies
 receivedAs s n m k t = withReceived t (set (t .received) (receivedPlace s n m) k)
 
+-- another mark of a station
 abbrev pub markAs : ℕ → ℕ → Copies → Copies
 markAs n mark t = marked t n mark
 
+-- a change of job slot j
 abbrev pub inJob : ℕ → (Job → Job) → Plant → Plant
 inJob j change p = withJobs p (set (p .jobs) j (change (jobAt (p .jobs) j)))
 
+-- another mark of a job
 abbrev pub openAs : ℕ → Job → Job
 openAs mark b = record { mark = mark; station = b .station; locks = b .locks }
 
+-- another station of a job
 abbrev pub stationAs : ℕ → Job → Job
 stationAs n b = record { mark = b .mark; station = n; locks = b .locks }
 
+-- another series of a lock
 abbrev pub seriesAs : ℕ → ℕ → Job → Job
 seriesAs i s b = putLock b i (record { series = s; mode = lockAt b i .mode; drawn = lockAt b i .drawn })
 
+-- another mode of a lock
 abbrev pub modeAs : ℕ → ℕ → Job → Job
 modeAs i mode b = putLock b i (record { series = lockAt b i .series; mode = mode; drawn = lockAt b i .drawn })
 
+-- another drawn count of a lock
 abbrev pub drawnAs : ℕ → ℕ → Job → Job
 drawnAs i count b = putLock b i (record { series = lockAt b i .series; mode = lockAt b i .mode; drawn = count })
 
+-- a change, and the rules that it breaks
 pub record Damage : Type 0 where
   pub change : Plant → Plant
   pub rules : List ℕ
 
+-- a change that breaks one rule
 abbrev pub breaks : ℕ → (Plant → Plant) → Damage
 breaks rule change = record { change = change; rules = rule ∷ [] }
 
+-- no change, and then one for each way to break a rule
 unfoldable pub damages : List Damage
 damages =
     record { change = λ p. p; rules = [] }

@@ -8,6 +8,7 @@ use Rattle.rulebook.specs.declared.Event.{Event}
 use Rattle.rulebook.specs.Events.{OPEN, BEGIN, LOCKX, DRAW, READ, COMMIT, SEND, DEMOTE, SHARE, DROP, PROMOTE, GRANT, ACK, CRASH, RESTART}
 use Rattle.rulebook.specs.Run.{Run, runOf}
 
+-- an event: its kind and four fields
 abbrev pub event : ℕ → ℕ → ℕ → ℕ → ℕ → Event
 event kind a b c d = record { kind = kind; a = a; b = b; c = c; d = d }
 
@@ -16,6 +17,7 @@ pub record Edge : Type 0 where
   pub events : List Event
   pub answers : List (List ℕ)
 
+-- a list of events with its answers
 abbrev pub edge : List Event → List (List ℕ) → Edge
 edge es answers = record { events = es; answers = answers }
 
@@ -27,6 +29,7 @@ gives code value = code ∷ value ∷ []
 abbrev pub linesOf : Run → List (List ℕ)
 linesOf r = map (λ a. codeOf (a .answer) ∷ valueOf (a .answer) ∷ a .numbers) (r .replies)
 
+-- the worked run at the end of "Around the step"
 unfoldable pub workedRun : Edge
 workedRun =
     edge
@@ -69,6 +72,7 @@ workedRun =
     ∷ (0 ∷ 1 ∷ 5 ∷ 1041 ∷ 60 ∷ [])
     ∷ [])
 
+-- the worked run, and the starred edges in 01's order
 unfoldable pub edges : List Edge
 edges =
     workedRun

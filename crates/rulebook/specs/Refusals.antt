@@ -63,10 +63,11 @@ HELD p e = forKinds (LOCKX ∷ LOCKS ∷ []) e (locksSeries (theJob p e) (the aS
 unfoldable pub FULL : Plant → Event → Bool
 FULL p e = forKinds (LOCKX ∷ LOCKS ∷ []) e (isFull (theJob p e))
 
--- 10. the copy isn't of the kind needed
+-- the copy at the event's station is of kind k
 abbrev pub copyIs : ℕ → Plant → Event → Bool
 copyIs k p e = eqb (kind (theSeries p e) (theStation p e)) k
 
+-- 10. the copy isn't of the kind needed: 2 for LOCKX, SEND, DEMOTE; 1 for LOCKS, SHARE, DROP, PROMOTE
 unfoldable pub COPY : Plant → Event → Bool
 COPY p e =
     cond (isIn (e .kind) (LOCKX ∷ SEND ∷ DEMOTE ∷ [])) (non (copyIs exclusive p e))
@@ -117,10 +118,11 @@ pub record Refusal : Type 0 where
   pub answer : Answer
   pub given : Plant → Event → Bool
 
+-- an answer, given so
 abbrev pub says : Answer → (Plant → Event → Bool) → Refusal
 says a given = record { answer = a; given = given }
 
--- The order of the checks: of the event, and before them of what was lent.
+-- refusals 3 to 18, of the event, in the order of the checks
 abbrev pub eventRefusals : List Refusal
 eventRefusals =
     says BadEvent BAD-EVENT
@@ -141,5 +143,6 @@ eventRefusals =
     ∷ says NoMessage NO-MESSAGE
     ∷ []
 
+-- all eighteen in the order of the checks: before those of the event, those of what was lent
 abbrev pub refusals : List ℕ → List Refusal
 refusals out = says Short (SHORT out) ∷ says NotWhole NOT-WHOLE ∷ eventRefusals

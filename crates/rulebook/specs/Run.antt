@@ -20,6 +20,7 @@ pub record Reply : Type 0 where
   pub answer : Answer
   pub numbers : List ℕ
 
+-- the reply to an event
 abbrev pub replyTo : Event → Outcome → Reply
 replyTo e o =
     record { answer = o .answer; numbers = cond (eqb (e .kind) COMMIT) (take (3 * valueOf (o .answer)) (o .out)) [] }
@@ -31,16 +32,19 @@ pub record Run : Type 0 where
   pub plant : Plant
   pub out : List ℕ
 
+-- a reply and its draws, before those of a run
 abbrev pub before : Reply → List Draw → Run → Run
 before a ds r = record { replies = a ∷ r .replies; draws = ds ++ r .draws; plant = r .plant; out = r .out }
 
--- one step, and the rest of the run from its outcome
+-- the effect of an event, and the run that goes on from it
 abbrev pub andThen : Event → List ℕ → Effect → (Plant → List ℕ → Run) → Run
 andThen e out x go = before (replyTo e (outcome out x)) (x .draws) (go (x .plant) (outcome out x .out))
 
+-- a run from given tables and output
 unfoldable pub runFrom : Plant → List ℕ → List Event → Run
 runFrom p out [] = record { replies = []; draws = []; plant = p; out = out }
 runFrom p out (e ∷ es) = andThen e out (effect p out e) (λ q next. runFrom q next es)
 
+-- a run from the empty plant
 unfoldable pub runOf : List Event → Run
 runOf es = runFrom emptyPlant (replicate outCount 0) es

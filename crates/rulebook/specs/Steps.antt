@@ -26,9 +26,11 @@ pub record Effect : Type 0 where
   pub plant : Plant
   pub draws : List Draw
 
+-- accepted, with value v
 abbrev pub done : ℕ → Plant → Effect
 done v p = record { answer = Done v; plant = p; draws = [] }
 
+-- every refusal changes no table and commits nothing
 abbrev pub refused : Answer → Plant → Effect
 refused a p = record { answer = a; plant = p; draws = [] }
 
@@ -60,11 +62,12 @@ doDRAW p e = done 0 (putJob p e (withDraw (theJob p e) (the aSeries e) (the aCou
 unfoldable pub doREAD : Plant → Event → Effect
 doREAD p e = done (value (theSeries p e) (theStation p e) + lockOn (theJob p e) (the aSeries e) .drawn) p
 
--- 7. each drawn count is added to its copy's value, the job closes; the number of draws
+-- the draws ds are committed and the job closes
 abbrev pub commits : Plant → Event → List Draw → Effect
 commits p e ds =
     record { answer = Done (length ds); plant = putJob (withCopies p (committed (p .copies) ds)) e noJob; draws = ds }
 
+-- 7. each drawn count is added to its copy's value, the job closes; the number of draws
 unfoldable pub doCOMMIT : Plant → Event → Effect
 doCOMMIT p e = commits p e (drawsOf (p .copies) (theJob p e))
 
@@ -117,10 +120,11 @@ doCRASH p e =
 unfoldable pub doRESTART : Plant → Event → Effect
 doRESTART p e = done (heldCount (p .copies) (the aStation e)) (withCopies p (marked (p .copies) (the aStation e) 1))
 
--- the accepted steps by kind; another kind is never accepted
+-- a kind that there isn't is never accepted
 abbrev pub nothing : Plant → Event → Effect
 nothing p e = done 0 p
 
+-- the accepted steps of kinds 0 to 17
 abbrev pub acceptedSteps : List (Plant → Event → Effect)
 acceptedSteps =
     nothing
@@ -143,6 +147,7 @@ acceptedSteps =
     ∷ doRESTART
     ∷ []
 
+-- the accepted step of an event
 unfoldable pub accepted : Plant → Event → Effect
 accepted p e = getD acceptedSteps (e .kind) nothing p e
 
@@ -151,6 +156,7 @@ unfoldable pub judged : List Refusal → Plant → Event → Effect
 judged [] p e = accepted p e
 judged (r ∷ rs) p e = cond (r .given p e) (refused (r .answer) p) (judged rs p e)
 
+-- a step's effect: the checks run in their order
 unfoldable pub effect : Plant → List ℕ → Event → Effect
 effect p out e = judged (refusals out) p e
 
@@ -160,8 +166,10 @@ pub record Outcome : Type 0 where
   pub plant : Plant
   pub out : List ℕ
 
+-- the output shows the draws in its first places; later places are untouched
 abbrev pub outcome : List ℕ → Effect → Outcome
 outcome out x = record { answer = x .answer; plant = x .plant; out = sets out 0 (shown (x .draws)) }
 
+-- THE STEP: what an event does to the tables and the output lent with it
 unfoldable pub stepOf : Plant → List ℕ → Event → Outcome
 stepOf p out e = outcome out (effect p out e)

@@ -7,16 +7,19 @@ use Rattle.copies.specs.Tables.{Copies, shortCopies}
 use Rattle.jobs.specs.declared.Job.{Job}
 use Rattle.jobs.specs.Slots.{shortJobs}
 
+-- the tables of both layers
 pub record Plant : Type 0 where
   pub copies : Copies
   pub jobs : List Job
 
+-- the plant with other tables of the lower layer
 abbrev pub withCopies : Plant → Copies → Plant
 withCopies p t = record { copies = t; jobs = p .jobs }
 
+-- the plant with other job slots
 abbrev pub withJobs : Plant → List Job → Plant
 withJobs p bs = record { copies = p .copies; jobs = bs }
 
--- a table has fewer entries than its stated size
+-- refusal 1, of the tables: one has fewer entries than its stated size
 unfoldable pub shortTables : Plant → Bool
 shortTables p = shortCopies (p .copies) or shortJobs (p .jobs)

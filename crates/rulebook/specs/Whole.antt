@@ -26,5 +26,6 @@ W4 p = W4jobs (p .copies) (p .jobs)
 unfoldable pub W5 : Plant → Bool
 W5 p = W5copies (p .copies) and W5jobs (p .jobs)
 
+-- tables are whole when W1 to W5 all hold
 unfoldable pub whole : Plant → Bool
 whole p = W1 p and W2 p and W3 p and W4 p and W5 p

@@ -9,12 +9,15 @@ use lib.Dec.{eqb}
 infixl 35 _and_
 infixl 30 _or_
 infixr 25 _⇒_
+-- the test fails
 unfoldable pub non : Bool → Bool
 non a = not a
 
+-- both hold
 unfoldable pub _and_ : Bool → Bool → Bool
 a and b = a && b
 
+-- one or both hold
 unfoldable pub _or_ : Bool → Bool → Bool
 a or b = a || b
 
