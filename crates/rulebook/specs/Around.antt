@@ -8,7 +8,7 @@ use lib.Seq.{sets}
 use Rattle.words.specs.declared.Answer.{Answer}
 use Rattle.words.specs.declared.Answer.the-variants.{Done, Short, NotWhole, BadEvent, None}
 use Rattle.words.specs.Numbers.{stationCount, seriesCount, jobCount, placeCount, receivedCount}
-use Rattle.words.specs.Tests.{non, one, sumBelow, countBelow, leastBelow}
+use Rattle.words.specs.Tests.{non, oneIf, sumBelow, countBelow, leastBelow}
 use Rattle.copies.specs.Tables.{Series, seriesAt, isOpen, held}
 use Rattle.jobs.specs.Job.{noJob}
 use Rattle.rulebook.specs.declared.Holders.{Holders}
@@ -63,7 +63,7 @@ abbrev pub holdersIn : Series → Holders
 holdersIn r =
     record {
       answer = Done 0;
-      set = sumBelow stationCount (λ n. one (held r n) * 2 ^ n);
+      set = sumBelow stationCount (λ n. oneIf (held r n) * 2 ^ n);
       count = countBelow stationCount (held r);
       lowest = leastBelow stationCount (held r);
     }

@@ -46,13 +46,13 @@ sumBelow zero f = 0
 sumBelow (suc n) f = sumBelow n f + f n
 
 -- 1 for a test that holds, else 0
-unfoldable pub one : Bool → ℕ
-one true = 1
-one false = 0
+unfoldable pub oneIf : Bool → ℕ
+oneIf true = 1
+oneIf false = 0
 
 -- at how many numbers below n the test holds
 abbrev pub countBelow : ℕ → (ℕ → Bool) → ℕ
-countBelow n f = sumBelow n (λ i. one (f i))
+countBelow n f = sumBelow n (λ i. oneIf (f i))
 
 -- the number is in the list
 abbrev pub isIn : ℕ → List ℕ → Bool
