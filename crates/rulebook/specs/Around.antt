@@ -40,18 +40,18 @@ unfoldable pub emptied : Plant → Plant
 emptied p =
     record {
       copies = record {
-        firsts = sets (p .copies .firsts) 0 (replicate seriesCount 0);
-        lasts = sets (p .copies .lasts) 0 (replicate seriesCount 0);
-        kinds = sets (p .copies .kinds) 0 (replicate placeCount 0);
-        values = sets (p .copies .values) 0 (replicate placeCount 0);
-        sent = sets (p .copies .sent) 0 (replicate placeCount 0);
-        relTo = sets (p .copies .relTo) 0 (replicate placeCount 0);
-        relKind = sets (p .copies .relKind) 0 (replicate placeCount 0);
-        relValue = sets (p .copies .relValue) 0 (replicate placeCount 0);
-        received = sets (p .copies .received) 0 (replicate receivedCount 0);
-        up = sets (p .copies .up) 0 (replicate stationCount 1);
+        firsts = sets (p .copies .firsts) 0 (emptyPlant .copies .firsts);
+        lasts = sets (p .copies .lasts) 0 (emptyPlant .copies .lasts);
+        kinds = sets (p .copies .kinds) 0 (emptyPlant .copies .kinds);
+        values = sets (p .copies .values) 0 (emptyPlant .copies .values);
+        sent = sets (p .copies .sent) 0 (emptyPlant .copies .sent);
+        relTo = sets (p .copies .relTo) 0 (emptyPlant .copies .relTo);
+        relKind = sets (p .copies .relKind) 0 (emptyPlant .copies .relKind);
+        relValue = sets (p .copies .relValue) 0 (emptyPlant .copies .relValue);
+        received = sets (p .copies .received) 0 (emptyPlant .copies .received);
+        up = sets (p .copies .up) 0 (emptyPlant .copies .up);
       };
-      jobs = sets (p .jobs) 0 (replicate jobCount noJob);
+      jobs = sets (p .jobs) 0 (emptyPlant .jobs);
     }
 
 -- making one refuses only with 1

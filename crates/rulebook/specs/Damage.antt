@@ -142,7 +142,8 @@ damages =
     ∷ breaks 3 (inCopies (receivedAs 0 4 3 1))
     ∷ breaks 3 (inCopies (receivedAs 2 5 0 1))
     ∷ breaks 3 (inCopies (receivedAs 1 1 1 1))
-    -- an open job at a station that is down; a lock of a series not open, or of a copy not held; drawn more than is left
+    -- an open job at a station that is down; a lock of a series not open, or of a copy not held; drawn more than is left; a share
+    -- lock of an exclusive copy
     ∷ breaks 4 (inCopies (markAs 0 0))
     ∷ breaks 4 (inJob 0 (seriesAs 0 9))
     ∷ breaks 4 (inJob 0 (seriesAs 0 2))
