@@ -50,9 +50,9 @@ series-rest t s =
         kind = later (t .kinds) 8 (s * 8 + n) (suc s * 8 + n) (row n) x;
         value = later (t .values) 8 (s * 8 + n) (suc s * 8 + n) (row n) x;
         sent = later (t .sent) 8 (s * 8 + n) (suc s * 8 + n) (row n) x;
-        relTo = later (t .relTo) 8 (s * 8 + n) (suc s * 8 + n) (row n) x;
-        relKind = later (t .relKind) 8 (s * 8 + n) (suc s * 8 + n) (row n) x;
-        relValue = later (t .relValue) 8 (s * 8 + n) (suc s * 8 + n) (row n) x;
+        relto = later (t .relTo) 8 (s * 8 + n) (suc s * 8 + n) (row n) x;
+        relkind = later (t .relKind) 8 (s * 8 + n) (suc s * 8 + n) (row n) x;
+        relvalue = later (t .relValue) 8 (s * 8 + n) (suc s * 8 + n) (row n) x;
       };
       received = λ n m. later (t .received) 64 ((s * 8 + n) * 8 + m) ((suc s * 8 + n) * 8 + m) (rows n m) x;
     }

@@ -1,3 +1,5 @@
 pub mod Tables
 pub mod Whole
+pub mod FirstBroken
 pub mod Steps
+pub mod Calls

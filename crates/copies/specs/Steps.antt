@@ -1,13 +1,13 @@
 -- "The seventeen events", the lower layer's share: what each does to copies and transfers, and the tests that their refusals ask.
 -- Each leaves every entry that it doesn't name as it stood.
 -- Assumes nothing.
-use Prim.Native.Nat.{ℕ, _+_}
+use Prim.Native.Nat.{ℕ, _+_, _-_, _*_, _^_}
 use mathlib.Core.Bool.{Bool}
 use lib.Dec.{eqb, ltb, leb}
 use lib.ListN.{set, replicate}
 use lib.Seq.{sets}
 use Rattle.words.specs.Numbers.{stationCount, seriesCount, greatestSent, void, share, exclusive}
-use Rattle.words.specs.Tests.{non, _and_, _or_, someBelow, countBelow}
+use Rattle.words.specs.Tests.{non, _and_, _or_, someBelow, sumBelow, oneIf, countBelow}
 use Rattle.copies.specs.Tables.{Copies, withBounds, withCopies, withReleases, withReceived, withUp, Series, seriesAt, place, receivedPlace, kind, value, held, sentCount, relTo, relKind, relValue, stands, received, undelivered}
 
 -- ---- one copy, one Release
@@ -19,18 +19,21 @@ putKind t s n k = withCopies t (set (t .kinds) (place s n) k) (t .values)
 abbrev pub putCopy : Copies → ℕ → ℕ → ℕ → ℕ → Copies
 putCopy t s n k v = withCopies t (set (t .kinds) (place s n) k) (set (t .values) (place s n) v)
 
--- the sent count and Release of station n for series s
-abbrev pub putRelease : Copies → ℕ → ℕ → ℕ → ℕ → ℕ → ℕ → Copies
-putRelease t s n number to k v =
-    withReleases t (set (t .sent) (place s n) number) (set (t .relTo) (place s n) to) (set (t .relKind) (place s n) k)
-    (set (t .relValue) (place s n) v)
+-- with another Release of station n for series s
+abbrev pub putRelease : Copies → ℕ → ℕ → ℕ → ℕ → ℕ → Copies
+putRelease t s n to k v =
+    withReleases t (t .sent) (set (t .relTo) (place s n) to) (set (t .relKind) (place s n) k) (set (t .relValue) (place s n) v)
+
+-- with another sent count
+abbrev pub putSent : Copies → ℕ → ℕ → ℕ → Copies
+putSent t s n number = withReleases t (set (t .sent) (place s n) number) (t .relTo) (t .relKind) (t .relValue)
 
 -- ---- the events
 -- OPEN: exclusive at the station, void elsewhere, all values the first number
 unfoldable pub opened : Copies → ℕ → ℕ → ℕ → ℕ → Copies
 opened t s first last n =
     withCopies (withBounds t (set (t .firsts) s first) (set (t .lasts) s last))
-    (sets (t .kinds) (place s 0) (set (replicate stationCount void) n exclusive))
+    (set (sets (t .kinds) (place s 0) (replicate stationCount void)) (place s n) exclusive)
     (sets (t .values) (place s 0) (replicate stationCount first))
 
 -- COMMIT: a drawn count is added to the copy's value
@@ -40,7 +43,7 @@ raised t s n count = withCopies t (t .kinds) (set (t .values) (place s n) (value
 -- SEND and SHARE raise the sent count by one; the Release takes the copy's value
 unfoldable pub released : Copies → ℕ → ℕ → ℕ → ℕ → Copies
 released t s from to k =
-    putRelease t s from (sentCount (seriesAt t s) from + 1) to k (value (seriesAt t s) from)
+    putSent (putRelease t s from to k (value (seriesAt t s) from)) s from (sentCount (seriesAt t s) from + 1)
 
 -- SEND: the copy becomes void, with a Release of kind 2
 unfoldable pub sentOff : Copies → ℕ → ℕ → ℕ → Copies
@@ -70,7 +73,7 @@ arrived t s from to number =
 
 -- ACK: the Release is deleted; the sent count stays
 unfoldable pub deleted : Copies → ℕ → ℕ → Copies
-deleted t s from = putRelease t s from (sentCount (seriesAt t s) from) 0 0 0
+deleted t s from = putRelease t s from 0 0 0
 
 -- CRASH: station down; RESTART: station up
 unfoldable pub marked : Copies → ℕ → ℕ → Copies
@@ -80,7 +83,15 @@ marked t n mark = withUp t (set (t .up) n mark)
 unfoldable pub heldCount : Copies → ℕ → ℕ
 heldCount t n = countBelow seriesCount (λ s. held (seriesAt t s) n)
 
--- ---- what refusals 16, 17 and 18 ask
+-- the holders of a series as a station set: bit i for station i
+unfoldable pub holderSet : Series → ℕ
+holderSet r = sumBelow stationCount (λ n. oneIf (held r n) * 2 ^ n)
+
+-- ---- what refusals 14, 16, 17 and 18 ask
+-- a count goes beyond the last number: it is above last + 1 − value
+unfoldable pub isBeyond : Series → ℕ → ℕ → Bool
+isBeyond r n count = ltb (r .last + 1 - value r n) count
+
 -- another station holds a share copy
 unfoldable pub otherShare : Series → ℕ → Bool
 otherShare r n = someBelow stationCount (λ m. non (eqb m n) and eqb (kind r m) share)

@@ -6,6 +6,7 @@ use mathlib.Core.List.{List}
 use lib.Dec.{eqb, ltb}
 use lib.ListN.{getD, length}
 use Rattle.words.specs.Numbers.{stationCount, seriesCount, placeCount, receivedCount, void}
+use Rattle.copies.specs.declared.Kept.{Kept}
 use Rattle.words.specs.Tests.{non, _and_, _or_, someBelow, leastBelow, countBelow}
 
 -- A column each: bounds of a series; copies; sent counts; Releases (receiver, kind, value); received numbers; stations' marks.
@@ -72,15 +73,6 @@ shortCopies t =
     or ltb (length (t .received)) receivedCount
     or ltb (length (t .up)) stationCount
 
--- What one station keeps of a series: its copy, how many transfers it has sent, its Release.
-pub record Kept : Type 0 where
-  pub kind : ℕ
-  pub value : ℕ
-  pub sent : ℕ
-  pub relTo : ℕ
-  pub relKind : ℕ
-  pub relValue : ℕ
-
 -- One series: its bounds, what each station keeps of it, and the highest number that a station has received from another.
 pub record Series : Type 0 where
   pub first : ℕ
@@ -88,27 +80,36 @@ pub record Series : Type 0 where
   pub kept : ℕ → Kept
   pub received : ℕ → ℕ → ℕ
 
+-- what stands at a place of the columns that hold one entry for each series and station
+abbrev pub keptIn : (kinds values sent relTo relKind relValue : List ℕ) → ℕ → Kept
+keptIn ks vs ns rt rk rv at =
+    record {
+      kind = getD ks at 0;
+      value = getD vs at 0;
+      sent = getD ns at 0;
+      relto = getD rt at 0;
+      relkind = getD rk at 0;
+      relvalue = getD rv at 0;
+    }
+
+-- series s, from the nine columns that keep series
+abbrev pub seriesIn : (firsts lasts kinds values sent relTo relKind relValue received : List ℕ) → ℕ → Series
+seriesIn fs ls ks vs ns rt rk rv gs s =
+    record {
+      first = getD fs s 0;
+      last = getD ls s 0;
+      kept = λ n. keptIn ks vs ns rt rk rv (place s n);
+      received = λ n m. getD gs (receivedPlace s n m) 0;
+    }
+
 -- what station n keeps of series s
 abbrev pub keptAt : Copies → ℕ → ℕ → Kept
-keptAt t s n =
-    record {
-      kind = getD (t .kinds) (place s n) 0;
-      value = getD (t .values) (place s n) 0;
-      sent = getD (t .sent) (place s n) 0;
-      relTo = getD (t .relTo) (place s n) 0;
-      relKind = getD (t .relKind) (place s n) 0;
-      relValue = getD (t .relValue) (place s n) 0;
-    }
+keptAt t s n = keptIn (t .kinds) (t .values) (t .sent) (t .relTo) (t .relKind) (t .relValue) (place s n)
 
 -- series s
 abbrev pub seriesAt : Copies → ℕ → Series
 seriesAt t s =
-    record {
-      first = getD (t .firsts) s 0;
-      last = getD (t .lasts) s 0;
-      kept = λ n. keptAt t s n;
-      received = λ n m. getD (t .received) (receivedPlace s n m) 0;
-    }
+    seriesIn (t .firsts) (t .lasts) (t .kinds) (t .values) (t .sent) (t .relTo) (t .relKind) (t .relValue) (t .received) s
 
 -- station n is up: its mark is 1
 abbrev pub isUp : Copies → ℕ → Bool
@@ -136,19 +137,23 @@ sentCount r n = r .kept n .sent
 
 -- the receiver of station n's Release
 abbrev pub relTo : Series → ℕ → ℕ
-relTo r n = r .kept n .relTo
+relTo r n = r .kept n .relto
 
 -- the kind of station n's Release
 abbrev pub relKind : Series → ℕ → ℕ
-relKind r n = r .kept n .relKind
+relKind r n = r .kept n .relkind
 
 -- the value of station n's Release
 abbrev pub relValue : Series → ℕ → ℕ
-relValue r n = r .kept n .relValue
+relValue r n = r .kept n .relvalue
 
 -- a Release stands when its kind isn't 0
+abbrev pub hasRelease : Kept → Bool
+hasRelease k = non (eqb (k .relkind) 0)
+
+-- station n's Release stands
 abbrev pub stands : Series → ℕ → Bool
-stands r n = non (eqb (relKind r n) 0)
+stands r n = hasRelease (r .kept n)
 
 -- the highest number that station n has received from station m
 abbrev pub received : Series → ℕ → ℕ → ℕ

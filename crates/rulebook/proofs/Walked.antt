@@ -4,12 +4,11 @@ use Prim.Native.Nat.{ℕ}
 use mathlib.Core.Path.{_≡_, refl, ap}
 use mathlib.Core.Bool.{Bool}
 use mathlib.Core.List.{List, [], _∷_}
-use lib.Dec.{leb}
-use lib.ListN.{getD, replicate}
+use lib.ListN.{replicate}
 use Rattle.words.specs.declared.Answer.the-variants.{Short, NotWhole}
-use Rattle.words.specs.Numbers.{stationCount, seriesCount, outCount}
-use Rattle.words.specs.Tests.{non, _and_, allBelow}
-use Rattle.copies.specs.Whole.{W1series, W2series, W3series, W5series, W1copies, W2copies, W3copies, W5copies}
+use Rattle.words.specs.Numbers.{seriesCount, outCount}
+use Rattle.words.specs.Tests.{non, _and_}
+use Rattle.copies.specs.Whole.{W1series, W2series, W3series, W5series, W1marks, W1copies, W2copies, W3copies, W5copies}
 use Rattle.copies.proofs.Walk.{walked, every-walked}
 use Rattle.jobs.specs.Whole.{W1jobs, W5jobs}
 use Rattle.rulebook.specs.declared.Event.{Event}
@@ -22,8 +21,7 @@ use Rattle.rulebook.specs.Run.{Run, andThen, runFrom, runOf}
 
 -- ---- the rules, and the whole check
 unfoldable pub W1walked : Plant → Bool
-W1walked p =
-    walked seriesCount W1series (p .copies) and allBelow stationCount (λ n. leb (getD (p .copies .up) n 0) 1) and W1jobs (p .jobs)
+W1walked p = walked seriesCount W1series (p .copies) and W1marks (p .copies .up) and W1jobs (p .jobs)
 
 unfoldable pub W2walked : Plant → Bool
 W2walked p = walked seriesCount W2series (p .copies)

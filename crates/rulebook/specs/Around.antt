@@ -1,6 +1,6 @@
 -- "Around the step" in 01: the empty plant, and the holders of a series.
 -- Assumes nothing.
-use Prim.Native.Nat.{ℕ, _*_, _^_}
+use Prim.Native.Nat.{ℕ}
 use mathlib.Core.Bool.{cond}
 use lib.Dec.{leb}
 use lib.ListN.{replicate}
@@ -8,8 +8,9 @@ use lib.Seq.{sets}
 use Rattle.words.specs.declared.Answer.{Answer}
 use Rattle.words.specs.declared.Answer.the-variants.{Done, Short, NotWhole, BadEvent, None}
 use Rattle.words.specs.Numbers.{stationCount, seriesCount, jobCount, placeCount, receivedCount}
-use Rattle.words.specs.Tests.{non, oneIf, sumBelow, countBelow, leastBelow}
+use Rattle.words.specs.Tests.{non, countBelow, leastBelow}
 use Rattle.copies.specs.Tables.{Series, seriesAt, isOpen, held}
+use Rattle.copies.specs.Steps.{holderSet}
 use Rattle.jobs.specs.Job.{noJob}
 use Rattle.rulebook.specs.declared.Holders.{Holders}
 use Rattle.rulebook.specs.Tables.{Plant, shortTables}
@@ -63,7 +64,7 @@ abbrev pub holdersIn : Series → Holders
 holdersIn r =
     record {
       answer = Done 0;
-      set = sumBelow stationCount (λ n. oneIf (held r n) * 2 ^ n);
+      set = holderSet r;
       count = countBelow stationCount (held r);
       lowest = leastBelow stationCount (held r);
     }

@@ -1,6 +1,6 @@
 -- "What a refusal says" in 01: when each of the eighteen is given, and the order of the checks.
 -- Assumes nothing.
-use Prim.Native.Nat.{ℕ, _+_, _-_}
+use Prim.Native.Nat.{ℕ}
 use mathlib.Core.Bool.{Bool, false, cond}
 use mathlib.Core.List.{List, [], _∷_}
 use lib.Dec.{eqb, ltb, leb}
@@ -9,8 +9,8 @@ use Rattle.words.specs.declared.Answer.{Answer}
 use Rattle.words.specs.declared.Answer.the-variants.{Short, NotWhole, BadEvent, Taken, None, Down, Up, Held, Full, Copy, Locked, NoLock, Drawn, Range, Wait, Spent, Others, NoMessage}
 use Rattle.words.specs.Numbers.{outCount, share, exclusive}
 use Rattle.words.specs.Tests.{non, _and_, _or_, isIn}
-use Rattle.copies.specs.Tables.{isOpen, isUp, kind, value, stands}
-use Rattle.copies.specs.Steps.{otherShare, underWay, isSpent, noGrant, noAck}
+use Rattle.copies.specs.Tables.{isOpen, isUp, kind, stands}
+use Rattle.copies.specs.Steps.{isBeyond, otherShare, underWay, isSpent, noGrant, noAck}
 use Rattle.jobs.specs.Job.{jobOpen, locksSeries, lockOn, isFull}
 use Rattle.jobs.specs.Slots.{free}
 use Rattle.rulebook.specs.declared.Event.{Event}
@@ -90,8 +90,7 @@ DRAWN p e = forKinds (DRAW ∷ []) e (non (eqb (lockOn (theJob p e) (the aSeries
 
 -- 14. count > last + 1 − value
 unfoldable pub RANGE : Plant → Event → Bool
-RANGE p e =
-    forKinds (DRAW ∷ []) e (ltb (theSeries p e .last + 1 - value (theSeries p e) (theStation p e)) (the aCount e))
+RANGE p e = forKinds (DRAW ∷ []) e (isBeyond (theSeries p e) (theStation p e) (the aCount e))
 
 -- 15. from has a standing Release for the series
 unfoldable pub WAIT : Plant → Event → Bool

@@ -9,6 +9,7 @@ use lib.Dec.{eqb}
 infixl 35 _and_
 infixl 30 _or_
 infixr 25 _⇒_
+infixr 20 _orElse_
 -- the test fails
 unfoldable pub non : Bool → Bool
 non a = not a
@@ -54,6 +55,23 @@ oneIf false = 0
 abbrev pub countBelow : ℕ → (ℕ → Bool) → ℕ
 countBelow n f = sumBelow n (λ i. oneIf (f i))
 
+-- ---- which rule is broken, by its number: 0 where none is
+-- rule k is broken where its test fails
+unfoldable pub broken : ℕ → Bool → ℕ
+broken k true = 0
+broken k false = k
+
+-- the first that is broken of two
+unfoldable pub _orElse_ : ℕ → ℕ → ℕ
+zero orElse b = b
+suc a orElse b = suc a
+
+-- the first that is broken of f 0, f 1 .. f (n − 1)
+unfoldable pub firstBelow : ℕ → (ℕ → ℕ) → ℕ
+firstBelow zero f = 0
+firstBelow (suc n) f = firstBelow n f orElse f n
+
+-- ---- lists
 -- the number is in the list
 abbrev pub isIn : ℕ → List ℕ → Bool
 isIn k [] = false
