@@ -1,9 +1,17 @@
--- Laws of the walks over the numbers below a bound. Assumes nothing.
-use Prim.Native.Nat.{ℕ, zero, suc}
+-- Laws of the walks over the numbers below a bound, for loops that count i up and for rules that are read at one place.
+--     -none    no turn yet            -next    one turn more, to j
+--     -end     the loop is at n       -stop    the loop is left at i
+-- Assumes nothing.
+use Prim.Native.Nat.{ℕ, zero, suc, _+_, _≤_, _<_}
+use native.Mathlib.Nat.{not-suc-le-zero, le-of-suc-le-suc, eq-or-lt-of-le}
+use native.Mathlib.Numerals.{add-one}
+use native.Mathlib.Omega.{arith}
 use mathlib.Core.Path.{_≡_, refl, sym, ap, _∙_}
-use mathlib.Core.Bool.{Bool, true, false}
-use Rattle.words.specs.Tests.{_and_, allBelow}
+use mathlib.Core.Logic.{⊎-elim}
+use mathlib.Core.Bool.{Bool, true, false, _&&_, _||_, true≢false}
+use Rattle.words.specs.Tests.{_and_, _or_, allBelow, someBelow, leastBelow, sumBelow, oneIf, broken, _orElse_, firstBelow}
 
+-- ---- the connectives
 and-assoc : (a b c : Bool) → ((a and b) and c) ≡ (a and (b and c))
 unfolding _and_
 and-assoc true b c = refl
@@ -14,8 +22,115 @@ unfolding _and_
 and-true true = refl
 and-true false = refl
 
+both-true : (a b : Bool) → (a and b) ≡ true → (a ≡ true) × (b ≡ true)
+unfolding _and_
+both-true true b e = (refl, e)
+both-true false b e = absurd (true≢false (sym e))
+
+-- ---- all
+pub all-none : (f : ℕ → Bool) → true ≡ allBelow 0 f
+unfolding allBelow
+all-none f = refl
+
+pub all-next : (f : ℕ → Bool) (i j : ℕ) (a r : Bool) → a ≡ allBelow i f → r ≡ f i → j ≡ i + 1 → (a && r) ≡ allBelow j f
+unfolding allBelow _and_
+all-next f i j a r p q e = rw (e, add-one, p, q)
+
+pub all-end : (n : ℕ) (f : ℕ → Bool) (i : ℕ) (a : Bool) → i ≤ n → n ≤ i → a ≡ allBelow i f → a ≡ allBelow n f
+all-end n f i a p q e = let same : n ≡ i = omega arith in rw same e
+
+-- what holds of all holds of each
+pub all-true : (n : ℕ) (f : ℕ → Bool) → allBelow n f ≡ true → (i : ℕ) → i < n → f i ≡ true
+unfolding allBelow
+all-true zero f e i l = absurd (not-suc-le-zero l)
+all-true (suc n) f e i l =
+    let two = both-true (allBelow n f) (f n) e in
+    ⊎-elim (λ q. rw q (two .1)) (λ lt. all-true n f (two .0) i lt) (eq-or-lt-of-le (le-of-suc-le-suc l))
+
+pub true-all : (n : ℕ) (f : ℕ → Bool) → ((i : ℕ) → i < n → f i ≡ true) → allBelow n f ≡ true
+unfolding allBelow _and_
+true-all zero f h = refl
+true-all (suc n) f h = rw (true-all n f (λ i l. h i (omega arith))) (h n (omega arith))
+
 -- a test of each number below n + 1 is one of 0, and then of each later one
 pub all-front : (n : ℕ) (f : ℕ → Bool) → allBelow (suc n) f ≡ (f 0 and allBelow n (λ i. f (suc i)))
 unfolding allBelow
 all-front zero f = sym (and-true (f 0))
 all-front (suc n) f = ap (λ (a : Bool). a and f (suc n)) (all-front n f) ∙ and-assoc (f 0) (allBelow n (λ i. f (suc i))) (f (suc n))
+
+-- ---- some
+pub some-none : (f : ℕ → Bool) → false ≡ someBelow 0 f
+unfolding someBelow
+some-none f = refl
+
+pub some-next : (f : ℕ → Bool) (i j : ℕ) (a r : Bool) → a ≡ someBelow i f → r ≡ f i → j ≡ i + 1 → (a || r) ≡ someBelow j f
+unfolding someBelow _or_
+some-next f i j a r p q e = rw (e, add-one, p, q)
+
+pub some-end : (n : ℕ) (f : ℕ → Bool) (i : ℕ) (a : Bool) → i ≤ n → n ≤ i → a ≡ someBelow i f → a ≡ someBelow n f
+some-end n f i a p q e = let same : n ≡ i = omega arith in rw same e
+
+-- ---- the sum
+pub sum-none : (f : ℕ → ℕ) → 0 ≡ sumBelow 0 f
+unfolding sumBelow
+sum-none f = refl
+
+pub sum-next : (f : ℕ → ℕ) (i j a r : ℕ) → a ≡ sumBelow i f → r ≡ f i → j ≡ i + 1 → a + r ≡ sumBelow j f
+unfolding sumBelow
+sum-next f i j a r p q e = rw (e, add-one, p, q)
+
+pub sum-end : (n : ℕ) (f : ℕ → ℕ) (i a : ℕ) → i ≤ n → n ≤ i → a ≡ sumBelow i f → a ≡ sumBelow n f
+sum-end n f i a p q e = let same : n ≡ i = omega arith in rw same e
+
+-- ---- the first that is broken
+pub first-none : (f : ℕ → ℕ) → firstBelow 0 f ≡ 0
+unfolding firstBelow
+first-none f = refl
+
+pub or-else-zero : (a b : ℕ) → (a orElse b) ≡ 0 → (a ≡ 0) × (b ≡ 0)
+unfolding _orElse_
+or-else-zero zero b e = (refl, e)
+or-else-zero (suc a) b e = absurd (omega arith)
+
+pub or-else-stop : (r a b : ℕ) → r ≡ a → (r ≡ 0 → ⊥) → r ≡ (a orElse b)
+unfolding _orElse_
+or-else-stop r zero b e h = absurd (h e)
+or-else-stop r (suc a) b e h = e
+
+pub or-else-pass : (q a b r : ℕ) → q ≡ a → q ≡ 0 → r ≡ b → r ≡ (a orElse b)
+unfolding _orElse_
+or-else-pass q a b r e z h = rw (← e, z) h
+
+pub first-next : (f : ℕ → ℕ) (i j r : ℕ) → firstBelow i f ≡ 0 → r ≡ f i → r ≡ 0 → j ≡ i + 1 → firstBelow j f ≡ 0
+unfolding firstBelow _orElse_
+first-next f i j r p q z e = rw (e, add-one, p, ← q, z)
+
+pub first-zero : (n : ℕ) (f : ℕ → ℕ) → firstBelow n f ≡ 0 → (i : ℕ) → i < n → f i ≡ 0
+unfolding firstBelow
+first-zero zero f e i l = absurd (not-suc-le-zero l)
+first-zero (suc n) f e i l =
+    let two = or-else-zero (firstBelow n f) (f n) e in
+    ⊎-elim (λ q. rw q (two .1)) (λ lt. first-zero n f (two .0) i lt) (eq-or-lt-of-le (le-of-suc-le-suc l))
+
+pub zero-first : (n : ℕ) (f : ℕ → ℕ) → ((i : ℕ) → i < n → f i ≡ 0) → firstBelow n f ≡ 0
+unfolding firstBelow _orElse_
+zero-first zero f h = refl
+zero-first (suc n) f h = rw (zero-first n f (λ i l. h i (omega arith))) (h n (omega arith))
+
+pub first-stop : (n : ℕ) (f : ℕ → ℕ) (i r : ℕ) → i < n → firstBelow i f ≡ 0 → r ≡ f i → (r ≡ 0 → ⊥) → r ≡ firstBelow n f
+unfolding firstBelow _orElse_
+first-stop zero f i r l z e h = absurd (not-suc-le-zero l)
+first-stop (suc n) f i r l z e h =
+    ⊎-elim (λ q. rw (← q, z) e) (λ lt. or-else-stop r (firstBelow n f) (f n) (first-stop n f i r lt z e h) h) (eq-or-lt-of-le (le-of-suc-le-suc l))
+
+pub first-end : (n : ℕ) (f : ℕ → ℕ) (i : ℕ) → i ≤ n → n ≤ i → firstBelow i f ≡ 0 → 0 ≡ firstBelow n f
+first-end n f i p q e = let same : n ≡ i = omega arith in rw same (sym e)
+
+-- ---- a rule that is broken, or not
+pub broken-no : (k : ℕ) (b : Bool) → b ≡ true → 0 ≡ broken k b
+unfolding broken
+broken-no k b e = rw e
+
+pub broken-yes : (k : ℕ) (b : Bool) → b ≡ false → k ≡ broken k b
+unfolding broken
+broken-yes k b e = rw e
