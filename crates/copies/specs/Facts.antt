@@ -46,8 +46,8 @@ OneToken r =
     ((tokens r exclusive ≡ 1) × (tokens r share ≡ 0)) ⊎ ((tokens r exclusive ≡ 0) × (1 ≤ tokens r share))
 
 -- W2: station n's copy and transfer, where they count, say v
-abbrev pub Says : Series → ℕ → ℕ → Type 0
-Says r v n = (Held r n → value r n ≡ v) × (Undelivered r n → relValue r n ≡ v)
+abbrev pub Agrees : Series → ℕ → ℕ → Type 0
+Agrees r v n = (Held r n → value r n ≡ v) × (Undelivered r n → relValue r n ≡ v)
 
 -- W3 of what station n has received, and of who has received its last number
 pub record W3At (r : Series) (n : ℕ) : Type 0 where
@@ -64,7 +64,7 @@ pub record OpenWhole (r : Series) : Type 0 where
   pub bounds : (r .first ≤ r .last) × (r .last ≤ greatestSerial)
   pub w1 : (n : ℕ) → n < stationCount → W1At r n
   pub token : OneToken r
-  pub says : (n : ℕ) → n < stationCount → Says r (next r) n
+  pub agree : (n : ℕ) → n < stationCount → Agrees r (next r) n
   pub w3 : (n : ℕ) → n < stationCount → W3At r n
   pub w5 : (n : ℕ) → n < stationCount → W5At r n
 
