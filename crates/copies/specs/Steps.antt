@@ -93,11 +93,11 @@ unfoldable pub isBeyond : Series → ℕ → ℕ → Bool
 isBeyond r n count = ltb (r .last + 1 - value r n) count
 
 -- another station holds a share copy
-unfoldable pub otherShare : Series → ℕ → Bool
+abbrev pub otherShare : Series → ℕ → Bool
 otherShare r n = someBelow stationCount (λ m. non (eqb m n) and eqb (kind r m) share)
 
 -- a transfer is undelivered
-unfoldable pub underWay : Series → Bool
+abbrev pub underWay : Series → Bool
 underWay r = someBelow stationCount (λ m. undelivered r m)
 
 -- the sent count is at its end (W1 allows none above)

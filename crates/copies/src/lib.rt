@@ -1,5 +1,13 @@
-// Copies and transfers: the lower layer, which knows no jobs. What its tables mean stands in specs/.
+// Copies and transfers: the lower layer, which knows no jobs. What its tables and calls mean stands in specs/.
+// Every call checks lengths and ranges itself and takes any tables; `free` says that no job locks the copy.
 use words::Serial;
+
+mod checks;
+mod token;
+
+pub use token::demote;
+pub use token::drop;
+pub use token::promote;
 
 // What one station keeps of a series: its copy, how many transfers it has sent, its Release.
 pub struct Kept {

@@ -1,0 +1,79 @@
+-- What the proofs of the calls share: a guard's fact decides the test of a refusal, and the refusals are passed one by one.
+-- `search decided` at a way out finds the facts of the guards that led there. Assumes nothing.
+use Prim.Native.Nat.{ℕ, _≤_, _<_}
+use mathlib.Core.Path.{_≡_, refl, sym, _∙_}
+use mathlib.Core.Bool.{Bool, true, false, not, _||_}
+use borrow.Author.Tests.{ne-eqb, eq-eqb, le-leb, lt-leb, le-ltb, lt-ltb, ltb-false, leb-false}
+use lib.Dec.{ltb, leb}
+use Rattle.words.specs.declared.Answer.{Answer}
+use Rattle.words.specs.Tests.{non, _or_}
+use Rattle.copies.specs.Tables.{Copies}
+use Rattle.copies.specs.Calls.{Outcome, outcome, refuse, badCopy}
+
+-- ---- a refusal is given, or passed
+module _ (t : Copies) (a : Answer) (b : Bool) (next x : Outcome) where
+  pub stopped : b ≡ true → x ≡ outcome a t → x ≡ refuse t a b next
+  unfolding refuse
+  stopped e h = rw e h
+
+  pub passed : b ≡ false → x ≡ next → x ≡ refuse t a b next
+  unfolding refuse
+  passed e h = rw e h
+
+-- ---- the opposite of a test
+pub non-true : (b : Bool) → b ≡ true → non b ≡ false
+unfolding non
+non-true b e = rw e
+
+pub non-false : (b : Bool) → b ≡ false → non b ≡ true
+unfolding non
+non-false b e = rw e
+
+-- a guard of the form `if !flag`
+pub non-not-true : (b : Bool) → not b ≡ true → non b ≡ true
+unfolding non
+non-not-true b e = e
+
+pub non-not-false : (b : Bool) → not b ≡ false → non b ≡ false
+unfolding non
+non-not-false b e = e
+
+-- and of the form `if !call(..)`, where the call's contract gives the test
+pub non-call-true : (r b : Bool) → r ≡ b → not r ≡ true → non b ≡ true
+unfolding non
+non-call-true r b p e = rw (← p) e
+
+pub non-call-false : (r b : Bool) → r ≡ b → not r ≡ false → non b ≡ false
+unfolding non
+non-call-false r b p e = rw (← p) e
+
+-- two calls' flags joined
+pub or-call : (r q a b v : Bool) → r ≡ a → q ≡ b → (r || q) ≡ v → (a or b) ≡ v
+unfolding _or_
+or-call r q a b v p h e = rw (← p, ← h) e
+
+-- a comparison's fact decides its test
+pub ruleset compared = (eq-eqb, ne-eqb, le-leb, lt-leb, lt-ltb, le-ltb)
+
+pub ruleset decided = (stopped, passed, non-true, non-false, non-not-true, non-not-false, eq-eqb, ne-eqb, le-leb, lt-leb, lt-ltb, le-ltb)
+
+-- ---- refusals 1 and 3 are flags of several tests
+pub or-left : (a b : Bool) → (a || b) ≡ false → a ≡ false
+or-left true b e = e
+or-left false b e = refl
+
+pub or-right : (a b : Bool) → (a || b) ≡ false → b ≡ false
+or-right true b e = cc
+or-right false b e = e
+
+pub ruleset parts = (or-left, or-right, ltb-false, leb-false)
+
+pub good-copy : (s n : ℕ) {r : Bool} → r ≡ badCopy s n → r ≡ false → (s < 64) × (n < 8)
+unfolding badCopy _or_
+good-copy s n e q = let h = sym e ∙ q in search parts
+
+pub long-promoter : {f k s t l g u : ℕ} → (ltb f 64 || ltb k 512 || ltb s 512 || ltb t 512 || ltb l 512 || ltb g 4096 || ltb u 8) ≡ false → (64 ≤ f) × (512 ≤ k) × (512 ≤ s) × (512 ≤ t) × (512 ≤ l) × (4096 ≤ g) × (8 ≤ u)
+long-promoter e = search parts
+
+pub long-holder : {f k u : ℕ} → (ltb f 64 || ltb k 512 || ltb u 8) ≡ false → (64 ≤ f) × (512 ≤ k) × (8 ≤ u)
+long-holder e = search parts
