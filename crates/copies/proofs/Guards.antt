@@ -8,7 +8,7 @@ use lib.Dec.{ltb, leb}
 use Rattle.words.specs.declared.Answer.{Answer}
 use Rattle.words.specs.Tests.{non, _or_}
 use Rattle.copies.specs.Tables.{Copies}
-use Rattle.copies.specs.Calls.{Outcome, outcome, refuse, badCopy}
+use Rattle.copies.specs.Calls.{Outcome, outcome, refuse, badCopy, badTransfer, badMessage}
 
 -- ---- a refusal is given, or passed
 module _ (t : Copies) (a : Answer) (b : Bool) (next x : Outcome) where
@@ -71,6 +71,20 @@ pub ruleset parts = (or-left, or-right, ltb-false, leb-false)
 pub good-copy : (s n : ℕ) {r : Bool} → r ≡ badCopy s n → r ≡ false → (s < 64) × (n < 8)
 unfolding badCopy _or_
 good-copy s n e q = let h = sym e ∙ q in search parts
+
+pub good-transfer : (s from to : ℕ) {r : Bool} → r ≡ badTransfer s from to → r ≡ false → (s < 64) × (from < 8) × (to < 8)
+unfolding badTransfer _or_
+good-transfer s from to e q = let h = sym e ∙ q in search parts
+
+pub good-message : (s from to number : ℕ) {r : Bool} → r ≡ badMessage s from to number → r ≡ false → (s < 64) × (from < 8) × (to < 8)
+unfolding badMessage _or_
+good-message s from to number e q = good-transfer s from to refl (or-left _ _ (or-left _ _ (sym e ∙ q)))
+
+pub long-sender : {f k v s t l w u : ℕ} → (ltb f 64 || ltb k 512 || ltb v 512 || ltb s 512 || ltb t 512 || ltb l 512 || ltb w 512 || ltb u 8) ≡ false → (64 ≤ f) × (512 ≤ k) × (512 ≤ v) × (512 ≤ s) × (512 ≤ t) × (512 ≤ l) × (512 ≤ w) × (8 ≤ u)
+long-sender e = search parts depth 9
+
+pub long-receiver : {f k v s t l w g u : ℕ} → (ltb f 64 || ltb k 512 || ltb v 512 || ltb s 512 || ltb t 512 || ltb l 512 || ltb w 512 || ltb g 4096 || ltb u 8) ≡ false → (64 ≤ f) × (512 ≤ k) × (512 ≤ v) × (512 ≤ s) × (512 ≤ t) × (512 ≤ l) × (512 ≤ w) × (4096 ≤ g) × (8 ≤ u)
+long-receiver e = search parts depth 10
 
 pub long-promoter : {f k s t l g u : ℕ} → (ltb f 64 || ltb k 512 || ltb s 512 || ltb t 512 || ltb l 512 || ltb g 4096 || ltb u 8) ≡ false → (64 ≤ f) × (512 ≤ k) × (512 ≤ s) × (512 ≤ t) × (512 ≤ l) × (4096 ≤ g) × (8 ≤ u)
 long-promoter e = search parts

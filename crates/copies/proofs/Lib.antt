@@ -1,2 +1,3 @@
 pub mod Walk
 pub mod Guards
+pub mod Messages

@@ -173,10 +173,23 @@ promote t free s n =
     refuse t Short (lacks seriesCount (t .firsts) or lacks placeCount (t .kinds) or lacks placeCount (t .sent) or lacks placeCount (t .relTo) or lacks placeCount (t .relKind) or lacks receivedCount (t .received) or lacks stationCount (t .up))
     (refuse t BadEvent (badCopy s n) (promoteIn t free s n))
 
+-- a column of GRANT is short
+unfoldable pub shortReceiver : Copies → Bool
+shortReceiver t =
+    lacks seriesCount (t .firsts)
+    or lacks placeCount (t .kinds)
+    or lacks placeCount (t .values)
+    or lacks placeCount (t .sent)
+    or lacks placeCount (t .relTo)
+    or lacks placeCount (t .relKind)
+    or lacks placeCount (t .relValue)
+    or lacks receivedCount (t .received)
+    or lacks stationCount (t .up)
+
 -- 14 GRANT
 unfoldable pub grant : Copies → ℕ → ℕ → ℕ → ℕ → Outcome
 grant t s from to number =
-    refuse t Short (shortSender t or lacks receivedCount (t .received))
+    refuse t Short (shortReceiver t)
     (refuse t BadEvent (badMessage s from to number) (grantIn t s from to number))
 
 -- 15 ACK

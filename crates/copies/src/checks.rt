@@ -16,7 +16,10 @@ pub fn bad_copy(series: u32, station: u32) -> bool
 pub fn bad_transfer(series: u32, from: u32, to: u32) -> bool
     ensures { λ r. ⌜ r ≡ badTransfer series from to ⌝ }
 {
-    (SERIES <= series as usize) | (STATIONS <= from as usize) | (STATIONS <= to as usize) | (from == to)
+    (SERIES <= series as usize)
+        | (STATIONS <= from as usize)
+        | (STATIONS <= to as usize)
+        | (from == to)
 }
 
 pub fn bad_message(series: u32, from: u32, to: u32, number: u32) -> bool

@@ -4,10 +4,15 @@ use words::Serial;
 
 mod checks;
 mod token;
+mod transfer;
 
 pub use token::demote;
 pub use token::drop;
 pub use token::promote;
+pub use transfer::ack;
+pub use transfer::grant;
+pub use transfer::send;
+pub use transfer::share;
 
 // What one station keeps of a series: its copy, how many transfers it has sent, its Release.
 pub struct Kept {

@@ -17,7 +17,14 @@ use words::STATIONS;
 use words::Serial;
 use words::VOID;
 
-fn demote_in(firsts: &[Serial], kinds: &mut [u32], up: &[u32], free: bool, series: u32, station: u32) -> Answer
+fn demote_in(
+    firsts: &[Serial],
+    kinds: &mut [u32],
+    up: &[u32],
+    free: bool,
+    series: u32,
+    station: u32,
+) -> Answer
     requires { ⌜ (64 ≤ length (now firsts)) × (512 ≤ length (now kinds)) × (8 ≤ length (now up)) × (series < 64) × (station < 8) ⌝ }
     ensures { λ r. ⌜ ((ls vs ns rt rk rv gs : List ℕ) → outcome r (tables (now (firsts .entry)) ls (now (kinds .exit)) vs ns rt rk rv gs (now (up .entry)))
         ≡ demoteIn (tables (now (firsts .entry)) ls (now (kinds .entry)) vs ns rt rk rv gs (now (up .entry))) free series station) ⌝ }
@@ -40,7 +47,14 @@ fn demote_in(firsts: &[Serial], kinds: &mut [u32], up: &[u32], free: bool, serie
 }
 
 // 10 DEMOTE: a free exclusive copy becomes share.
-pub fn demote(firsts: &[Serial], kinds: &mut [u32], up: &[u32], free: bool, series: u32, station: u32) -> Answer
+pub fn demote(
+    firsts: &[Serial],
+    kinds: &mut [u32],
+    up: &[u32],
+    free: bool,
+    series: u32,
+    station: u32,
+) -> Answer
     ensures { λ r. ⌜ ((ls vs ns rt rk rv gs : List ℕ) → outcome r (tables (now (firsts .entry)) ls (now (kinds .exit)) vs ns rt rk rv gs (now (up .entry)))
         ≡ demote (tables (now (firsts .entry)) ls (now (kinds .entry)) vs ns rt rk rv gs (now (up .entry))) free series station) ⌝ }
 {
@@ -65,7 +79,14 @@ fn other_share(kinds: &[u32], series: u32, station: u32) -> bool
     some
 }
 
-fn drop_in(firsts: &[Serial], kinds: &mut [u32], up: &[u32], free: bool, series: u32, station: u32) -> Answer
+fn drop_in(
+    firsts: &[Serial],
+    kinds: &mut [u32],
+    up: &[u32],
+    free: bool,
+    series: u32,
+    station: u32,
+) -> Answer
     requires { ⌜ (64 ≤ length (now firsts)) × (512 ≤ length (now kinds)) × (8 ≤ length (now up)) × (series < 64) × (station < 8) ⌝ }
     ensures { λ r. ⌜ ((ls vs ns rt rk rv gs : List ℕ) → outcome r (tables (now (firsts .entry)) ls (now (kinds .exit)) vs ns rt rk rv gs (now (up .entry)))
         ≡ dropIn (tables (now (firsts .entry)) ls (now (kinds .entry)) vs ns rt rk rv gs (now (up .entry))) free series station) ⌝ }
@@ -91,7 +112,14 @@ fn drop_in(firsts: &[Serial], kinds: &mut [u32], up: &[u32], free: bool, series:
 }
 
 // 12 DROP: a free share copy, not the only one, becomes void.
-pub fn drop(firsts: &[Serial], kinds: &mut [u32], up: &[u32], free: bool, series: u32, station: u32) -> Answer
+pub fn drop(
+    firsts: &[Serial],
+    kinds: &mut [u32],
+    up: &[u32],
+    free: bool,
+    series: u32,
+    station: u32,
+) -> Answer
     ensures { λ r. ⌜ ((ls vs ns rt rk rv gs : List ℕ) → outcome r (tables (now (firsts .entry)) ls (now (kinds .exit)) vs ns rt rk rv gs (now (up .entry)))
         ≡ drop (tables (now (firsts .entry)) ls (now (kinds .entry)) vs ns rt rk rv gs (now (up .entry))) free series station) ⌝ }
 {
@@ -105,7 +133,14 @@ pub fn drop(firsts: &[Serial], kinds: &mut [u32], up: &[u32], free: bool, series
 }
 
 // Whether station n's transfer is undelivered.
-fn is_undelivered(sent: &[u32], relto: &[u32], relkind: &[u32], received: &[u32], series: u32, n: usize) -> bool
+fn is_undelivered(
+    sent: &[u32],
+    relto: &[u32],
+    relkind: &[u32],
+    received: &[u32],
+    series: u32,
+    n: usize,
+) -> bool
     requires { ⌜ (512 ≤ length (now sent)) × (512 ≤ length (now relto)) × (512 ≤ length (now relkind)) × (4096 ≤ length (now received)) × (series < 64) × (n < 8) ⌝ }
     ensures { λ r. ⌜ r ≡ undelivered (seriesIn [] [] [] [] (now (sent .entry)) (now (relto .entry)) (now (relkind .entry)) [] (now (received .entry)) series) n ⌝ }
 {
@@ -197,5 +232,16 @@ pub fn promote(
     if bad_copy(series, station) {
         return Answer::BadEvent;
     }
-    promote_in(firsts, kinds, sent, relto, relkind, received, up, free, series, station)
+    promote_in(
+        firsts,
+        kinds,
+        sent,
+        relto,
+        relkind,
+        received,
+        up,
+        free,
+        series,
+        station,
+    )
 }
