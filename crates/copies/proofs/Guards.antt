@@ -1,6 +1,7 @@
 -- What the proofs of the calls share: a guard's fact decides the test of a refusal, and the refusals are passed one by one.
 -- `search decided` at a way out finds the facts of the guards that led there. Assumes nothing.
-use Prim.Native.Nat.{ℕ, _≤_, _<_}
+use Prim.Native.Nat.{ℕ, _+_, _-_, _≤_, _<_}
+use native.Mathlib.Omega.{arith}
 use mathlib.Core.Path.{_≡_, refl, sym, _∙_}
 use mathlib.Core.Bool.{Bool, true, false, not, _||_}
 use borrow.Author.Tests.{ne-eqb, eq-eqb, le-leb, lt-leb, le-ltb, lt-ltb, ltb-false, leb-false}
@@ -8,7 +9,7 @@ use lib.Dec.{ltb, leb}
 use Rattle.words.specs.declared.Answer.{Answer}
 use Rattle.words.specs.Tests.{non, _or_}
 use Rattle.copies.specs.Tables.{Copies}
-use Rattle.copies.specs.Calls.{Outcome, outcome, refuse, badCopy, badTransfer, badMessage}
+use Rattle.copies.specs.Calls.{Outcome, outcome, refuse, badCopy, badTransfer, badMessage, badOpening}
 
 -- ---- a refusal is given, or passed
 module _ (t : Copies) (a : Answer) (b : Bool) (next x : Outcome) where
@@ -57,6 +58,11 @@ pub ruleset compared = (eq-eqb, ne-eqb, le-leb, lt-leb, lt-ltb, le-ltb)
 
 pub ruleset decided = (stopped, passed, non-true, non-false, non-not-true, non-not-false, eq-eqb, ne-eqb, le-leb, lt-leb, lt-ltb, le-ltb)
 
+-- ---- refusal 14
+-- of a series past its end nothing is left
+pub past-end : (last value count : ℕ) → last + 1 < value → ltb 0 count ≡ ltb (last + 1 - value) count
+past-end last value count l = let none : last + 1 - value ≡ 0 = omega arith in rw none
+
 -- ---- refusals 1 and 3 are flags of several tests
 pub or-left : (a b : Bool) → (a || b) ≡ false → a ≡ false
 or-left true b e = e
@@ -91,3 +97,16 @@ long-promoter e = search parts
 
 pub long-holder : {f k u : ℕ} → (ltb f 64 || ltb k 512 || ltb u 8) ≡ false → (64 ≤ f) × (512 ≤ k) × (8 ≤ u)
 long-holder e = search parts
+
+pub long-opener : {f l k v u : ℕ} → (ltb f 64 || ltb l 64 || ltb k 512 || ltb v 512 || ltb u 8) ≡ false → (64 ≤ f) × (64 ≤ l) × (512 ≤ k) × (512 ≤ v) × (8 ≤ u)
+long-opener e = search parts
+
+pub long-raiser : {l v : ℕ} → (ltb l 64 || ltb v 512) ≡ false → (64 ≤ l) × (512 ≤ v)
+long-raiser e = search parts
+
+pub long-restart : {k u : ℕ} → (ltb k 512 || ltb u 8) ≡ false → (512 ≤ k) × (8 ≤ u)
+long-restart e = search parts
+
+pub good-opening : (s first last n : ℕ) {r : Bool} → r ≡ badOpening s first last n → r ≡ false → (s < 64) × (n < 8)
+unfolding badOpening _or_
+good-opening s first last n e q = good-copy s n refl (or-left _ _ (or-left _ _ (or-left _ _ (sym e ∙ q))))

@@ -1,3 +1,4 @@
 pub mod Walk
 pub mod Guards
 pub mod Messages
+pub mod Row

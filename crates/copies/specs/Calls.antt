@@ -4,15 +4,15 @@
 -- Assumes nothing.
 use Prim.Native.Nat.{ℕ, _+_}
 use mathlib.Core.Bool.{Bool, true, false, cond}
-use mathlib.Core.List.{List}
+use mathlib.Core.List.{List, []}
 use lib.Dec.{eqb, ltb, leb}
 use lib.ListN.{length, getD}
 use Rattle.words.specs.declared.Answer.{Answer}
 use Rattle.words.specs.declared.Answer.the-variants.{Done, Short, BadEvent, Taken, None, Down, Up, Copy, Locked, Range, Wait, Spent, Others, NoMessage}
 use Rattle.words.specs.Numbers.{stationCount, seriesCount, placeCount, receivedCount, greatestSerial, greatestSent, share, exclusive}
 use Rattle.words.specs.Tests.{non, _and_, _or_}
-use Rattle.copies.specs.Tables.{Copies, Series, seriesAt, isOpen, isUp, kind, value, sentCount, stands}
-use Rattle.copies.specs.Steps.{opened, raised, sentOff, demoted, shared, dropped, promoted, arrived, deleted, marked, heldCount, isBeyond, otherShare, underWay, isSpent, isRepeat, matches, noGrant, noAck}
+use Rattle.copies.specs.Tables.{Copies, Series, seriesIn, seriesAt, isOpen, isUp, kind, value, sentCount, stands}
+use Rattle.copies.specs.Steps.{opened, raised, sentOff, demoted, shared, dropped, promoted, arrived, deleted, marked, heldCount, holderSet, isBeyond, otherShare, underWay, isSpent, isRepeat, matches, noGrant, noAck}
 
 -- What a call leaves: its answer and the layer's tables.
 pub record Outcome : Type 0 where
@@ -127,6 +127,17 @@ ackIn t s from to number =
     (refuse t NoMessage (noAck (seriesAt t s) from to number)
     (cond (matches (seriesAt t s) from to number) (done 1 (deleted t s from)) (done 0 t))))
 
+-- RESTART
+unfoldable pub restartIn : Copies → ℕ → Outcome
+restartIn t n = refuse t Up (isUp t n) (done (heldCount t n) (marked t n 1))
+
+-- COMMIT's share, unless the sum would pass last + 1 or, in tables that aren't whole, the greatest value that there is
+unfoldable pub raiseIn : Copies → ℕ → ℕ → ℕ → Outcome
+raiseIn t s n count =
+    refuse t Range (isBeyond (seriesAt t s) n count)
+    (refuse t Range (ltb (greatestSerial + 1) (value (seriesAt t s) n + count))
+    (done 0 (raised t s n count)))
+
 -- ---- the calls, over the columns that each is lent
 -- 1 OPEN
 unfoldable pub openSeries : Copies → ℕ → ℕ → ℕ → ℕ → Outcome
@@ -210,14 +221,27 @@ crash t n =
 unfoldable pub restart : Copies → ℕ → Outcome
 restart t n =
     refuse t Short (lacks placeCount (t .kinds) or lacks stationCount (t .up))
-    (refuse t BadEvent (leb stationCount n)
-    (refuse t Up (isUp t n)
-    (done (heldCount t n) (marked t n 1))))
+    (refuse t BadEvent (leb stationCount n) (restartIn t n))
 
--- a committed count is added to a copy's value, unless the sum would pass last + 1 or the greatest last number + 1
+-- COMMIT's share: a drawn count is added to a copy's value
 unfoldable pub raise : Copies → ℕ → ℕ → ℕ → Outcome
 raise t s n count =
-    refuse t Short (lacks seriesCount (t .lasts) or lacks placeCount (t .values))
-    (refuse t BadEvent (badCopy s n)
-    (refuse t Range (isBeyond (seriesAt t s) n count or ltb (greatestSerial + 1) (value (seriesAt t s) n + count))
-    (done 0 (raised t s n count))))
+    refuse t Short (lacks seriesCount (t .lasts) or lacks placeCount (t .values)) (refuse t BadEvent (badCopy s n) (raiseIn t s n count))
+
+-- ---- reading
+-- the number at a place of a column; 0 where the column is short, or the place none of the table's
+unfoldable pub read : (size : ℕ) (column : List ℕ) (bad : Bool) (at : ℕ) → ℕ
+read size column bad at = cond (lacks size column or bad) 0 (getD column at 0)
+
+-- a count goes beyond what is left of a series at a station; any count does where there is no such copy
+unfoldable pub beyond : (lasts values : List ℕ) → ℕ → ℕ → ℕ → Bool
+beyond lasts values s n count =
+    lacks seriesCount lasts
+    or lacks placeCount values
+    or badCopy s n
+    or isBeyond (seriesIn [] lasts [] values [] [] [] [] [] s) n count
+
+-- the holders of a series as a station set; empty where there is no such series
+unfoldable pub holders : (kinds : List ℕ) → ℕ → ℕ
+holders kinds s =
+    cond (lacks placeCount kinds or leb seriesCount s) 0 (holderSet (seriesIn [] [] kinds [] [] [] [] [] [] s))

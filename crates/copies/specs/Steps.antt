@@ -80,16 +80,16 @@ unfoldable pub marked : Copies → ℕ → ℕ → Copies
 marked t n mark = withUp t (set (t .up) n mark)
 
 -- the value of RESTART: how many copies of the station are not void
-unfoldable pub heldCount : Copies → ℕ → ℕ
+abbrev pub heldCount : Copies → ℕ → ℕ
 heldCount t n = countBelow seriesCount (λ s. held (seriesAt t s) n)
 
 -- the holders of a series as a station set: bit i for station i
-unfoldable pub holderSet : Series → ℕ
+abbrev pub holderSet : Series → ℕ
 holderSet r = sumBelow stationCount (λ n. oneIf (held r n) * 2 ^ n)
 
 -- ---- what refusals 14, 16, 17 and 18 ask
 -- a count goes beyond the last number: it is above last + 1 − value
-unfoldable pub isBeyond : Series → ℕ → ℕ → Bool
+abbrev pub isBeyond : Series → ℕ → ℕ → Bool
 isBeyond r n count = ltb (r .last + 1 - value r n) count
 
 -- another station holds a share copy

@@ -3,9 +3,15 @@
 use words::Serial;
 
 mod checks;
+mod series;
+mod station;
 mod token;
 mod transfer;
 
+pub use series::open_series;
+pub use series::raise;
+pub use station::crash;
+pub use station::restart;
 pub use token::demote;
 pub use token::drop;
 pub use token::promote;
