@@ -3,11 +3,18 @@
 use words::Serial;
 
 mod checks;
+mod read;
 mod series;
 mod station;
 mod token;
 mod transfer;
 
+pub use read::beyond;
+pub use read::holders;
+pub use read::is_open;
+pub use read::is_up;
+pub use read::kind;
+pub use read::value;
 pub use series::open_series;
 pub use series::raise;
 pub use station::crash;

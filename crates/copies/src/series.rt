@@ -84,7 +84,17 @@ pub fn open_series(
     if bad_opening(series, first, last, station) {
         return Answer::BadEvent;
     }
-    open_in(firsts, lasts, kinds, values, up, series, first, last, station)
+    open_in(
+        firsts,
+        lasts,
+        kinds,
+        values,
+        up,
+        series,
+        first,
+        last,
+        station,
+    )
 }
 
 // Whether a count is above last + 1 - value, which is 0 where the value is above last + 1.
@@ -98,7 +108,13 @@ pub fn is_beyond(last: Serial, value: Serial, count: Serial) -> bool
     end - (value as u64) < count as u64
 }
 
-fn raise_in(lasts: &[Serial], values: &mut [Serial], series: u32, station: u32, count: Serial) -> Answer
+fn raise_in(
+    lasts: &[Serial],
+    values: &mut [Serial],
+    series: u32,
+    station: u32,
+    count: Serial,
+) -> Answer
     requires { ⌜ (64 ≤ length (now lasts)) × (512 ≤ length (now values)) × (series < 64) × (station < 8) ⌝ }
     ensures { λ r. ⌜ ((fs ks ns rt rk rv gs us : List ℕ) → outcome r (tables fs (now (lasts .entry)) ks (now (values .exit)) ns rt rk rv gs us)
         ≡ raiseIn (tables fs (now (lasts .entry)) ks (now (values .entry)) ns rt rk rv gs us) series station count) ⌝ }
@@ -116,7 +132,13 @@ fn raise_in(lasts: &[Serial], values: &mut [Serial], series: u32, station: u32, 
 }
 
 // COMMIT's share: a drawn count is added to the copy's value, unless the sum would pass last + 1 or the greatest last number + 1.
-pub fn raise(lasts: &[Serial], values: &mut [Serial], series: u32, station: u32, count: Serial) -> Answer
+pub fn raise(
+    lasts: &[Serial],
+    values: &mut [Serial],
+    series: u32,
+    station: u32,
+    count: Serial,
+) -> Answer
     ensures { λ r. ⌜ ((fs ks ns rt rk rv gs us : List ℕ) → outcome r (tables fs (now (lasts .entry)) ks (now (values .exit)) ns rt rk rv gs us)
         ≡ raise (tables fs (now (lasts .entry)) ks (now (values .entry)) ns rt rk rv gs us) series station count) ⌝ }
 {

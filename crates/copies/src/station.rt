@@ -33,7 +33,7 @@ pub fn crash(up: &mut [u32], station: u32) -> Answer
 }
 
 // 1 for a copy that is held, 0 for a void one.
-fn one_if_held(kind: u32) -> u32
+pub fn one_if_held(kind: u32) -> u32
     ensures { λ r. ⌜ (r ≡ oneIf (non (eqb kind 0))) × (r ≤ 1) ⌝ }
 {
     if kind == VOID { 0 } else { 1 }
