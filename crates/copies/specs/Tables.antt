@@ -160,8 +160,9 @@ abbrev pub received : Series → ℕ → ℕ → ℕ
 received r n m = r .received n m
 
 -- station n's transfer is undelivered: its Release stands, and the receiver's highest number from n is below the transfer's
+-- (a receiver that is no station, which W1 forbids, is asked nothing)
 abbrev pub undelivered : Series → ℕ → Bool
-undelivered r n = stands r n and ltb (received r (relTo r n) n) (sentCount r n)
+undelivered r n = stands r n and (ltb (relTo r n) stationCount and ltb (received r (relTo r n) n) (sentCount r n))
 
 -- how many copies held and transfers undelivered are of kind k
 unfoldable pub tokens : Series → ℕ → ℕ
