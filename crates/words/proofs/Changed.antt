@@ -1,0 +1,58 @@
+-- Walks over two functions that agree below the bound, and a sum over two that agree there save at one place.
+-- Assumes nothing.
+use Prim.Native.Nat.{ℕ, zero, suc, _+_, _<_}
+use native.Mathlib.Nat.{not-suc-le-zero, le-of-suc-le-suc, eq-or-lt-of-le}
+use native.Mathlib.Omega.{arith}
+use mathlib.Core.Path.{_≡_, refl}
+use mathlib.Core.Logic.{⊎-elim}
+use mathlib.Core.Bool.{Bool}
+use Rattle.words.specs.Tests.{_and_, _or_, allBelow, someBelow, leastBelow, sumBelow, firstBelow}
+
+-- two functions give the same at each number below n
+abbrev pub SameBelow : {A : Type 0} → ℕ → (f g : ℕ → A) → Type 0
+SameBelow n f g = (i : ℕ) → i < n → f i ≡ g i
+
+-- what is the same below n + 1 is the same below n
+fewer : {A : Type 0} (n : ℕ) (f g : ℕ → A) → SameBelow (suc n) f g → SameBelow n f g
+fewer n f g h i l = h i (omega arith)
+
+-- all
+pub all-same : (n : ℕ) (f g : ℕ → Bool) → SameBelow n f g → allBelow n f ≡ allBelow n g
+unfolding allBelow
+all-same zero f g h = refl
+all-same (suc n) f g h = rw (all-same n f g (fewer n f g h), h n (omega arith))
+
+-- some
+pub some-same : (n : ℕ) (f g : ℕ → Bool) → SameBelow n f g → someBelow n f ≡ someBelow n g
+unfolding someBelow
+some-same zero f g h = refl
+some-same (suc n) f g h = rw (some-same n f g (fewer n f g h), h n (omega arith))
+
+-- the least
+pub least-same : (n : ℕ) (f g : ℕ → Bool) → SameBelow n f g → leastBelow n f ≡ leastBelow n g
+unfolding leastBelow
+least-same zero f g h = refl
+least-same (suc n) f g h = rw (some-same n f g (fewer n f g h), least-same n f g (fewer n f g h), h n (omega arith))
+
+-- the sum
+pub sum-same : (n : ℕ) (f g : ℕ → ℕ) → SameBelow n f g → sumBelow n f ≡ sumBelow n g
+unfolding sumBelow
+sum-same zero f g h = refl
+sum-same (suc n) f g h = rw (sum-same n f g (fewer n f g h), h n (omega arith))
+
+-- the first that is broken
+pub first-same : (n : ℕ) (f g : ℕ → ℕ) → SameBelow n f g → firstBelow n f ≡ firstBelow n g
+unfolding firstBelow
+first-same zero f g h = refl
+first-same (suc n) f g h = rw (first-same n f g (fewer n f g h), h n (omega arith))
+
+-- one place k below n changed: the sum moves by what that place does
+pub sum-changed : (n k : ℕ) (f g : ℕ → ℕ) → k < n → ((i : ℕ) → i < n → (i ≡ k → ⊥) → f i ≡ g i) → sumBelow n g + f k ≡ sumBelow n f + g k
+unfolding sumBelow
+sum-changed zero k f g l h = absurd (not-suc-le-zero l)
+sum-changed (suc n) k f g l h =
+    ⊎-elim
+    (λ (q : k ≡ n). let rest : sumBelow n f ≡ sumBelow n g = sum-same n f g (λ i m. h i (omega arith) (λ e. absurd (omega arith))) in rw q (omega arith))
+    (λ lt. let rest : sumBelow n g + f k ≡ sumBelow n f + g k = sum-changed n k f g lt (λ i m. h i (omega arith)) in
+      let same : f n ≡ g n = h n (omega arith) (λ e. absurd (omega arith)) in omega arith)
+    (eq-or-lt-of-le (le-of-suc-le-suc l))
