@@ -1,2 +1,4 @@
 pub mod Walk
 pub mod Tokens
+pub mod Reflect
+pub mod Unbroken

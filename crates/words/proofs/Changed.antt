@@ -5,12 +5,24 @@ use native.Mathlib.Nat.{not-suc-le-zero, le-of-suc-le-suc, eq-or-lt-of-le}
 use native.Mathlib.Omega.{arith}
 use mathlib.Core.Path.{_≡_, refl}
 use mathlib.Core.Logic.{⊎-elim}
-use mathlib.Core.Bool.{Bool}
-use Rattle.words.specs.Tests.{_and_, _or_, allBelow, someBelow, leastBelow, sumBelow, firstBelow}
+use mathlib.Core.Bool.{Bool, true, false}
+use Rattle.words.specs.Tests.{_and_, allBelow, someBelow, leastBelow, sumBelow, _orElse_, firstBelow}
 
 -- two functions give the same at each number below n
 abbrev pub SameBelow : {A : Type 0} → ℕ → (f g : ℕ → A) → Type 0
 SameBelow n f g = (i : ℕ) → i < n → f i ≡ g i
+
+-- one test and another, where the second counts only if the first holds
+pub and-same : (a b c : Bool) → (a ≡ true → b ≡ c) → (a and b) ≡ (a and c)
+unfolding _and_
+and-same true b c h = h refl
+and-same false b c h = refl
+
+-- and so for the first rule broken of two
+pub or-else-same : (a b c : ℕ) → (a ≡ 0 → b ≡ c) → (a orElse b) ≡ (a orElse c)
+unfolding _orElse_
+or-else-same zero b c h = h refl
+or-else-same (suc a) b c h = refl
 
 -- what is the same below n + 1 is the same below n
 fewer : {A : Type 0} (n : ℕ) (f g : ℕ → A) → SameBelow (suc n) f g → SameBelow n f g
@@ -50,9 +62,11 @@ first-same (suc n) f g h = rw (first-same n f g (fewer n f g h), h n (omega arit
 pub sum-changed : (n k : ℕ) (f g : ℕ → ℕ) → k < n → ((i : ℕ) → i < n → (i ≡ k → ⊥) → f i ≡ g i) → sumBelow n g + f k ≡ sumBelow n f + g k
 unfolding sumBelow
 sum-changed zero k f g l h = absurd (not-suc-le-zero l)
-sum-changed (suc n) k f g l h =
-    ⊎-elim
-    (λ (q : k ≡ n). let rest : sumBelow n f ≡ sumBelow n g = sum-same n f g (λ i m. h i (omega arith) (λ e. absurd (omega arith))) in rw q (omega arith))
-    (λ lt. let rest : sumBelow n g + f k ≡ sumBelow n f + g k = sum-changed n k f g lt (λ i m. h i (omega arith)) in
-      let same : f n ≡ g n = h n (omega arith) (λ e. absurd (omega arith)) in omega arith)
-    (eq-or-lt-of-le (le-of-suc-le-suc l))
+sum-changed (suc n) k f g l h = ⊎-elim here (λ lt. before lt (sum-changed n k f g lt (λ i m. h i (omega arith)))) (eq-or-lt-of-le (le-of-suc-le-suc l))
+  where
+    here : k ≡ n → sumBelow n g + g n + f k ≡ sumBelow n f + f n + g k
+    here q =
+        let rest : sumBelow n f ≡ sumBelow n g = sum-same n f g (λ i m. h i (omega arith) (λ e. absurd (omega arith))) in rw q (omega arith)
+
+    before : k < n → sumBelow n g + f k ≡ sumBelow n f + g k → sumBelow n g + g n + f k ≡ sumBelow n f + f n + g k
+    before lt rest = let same : f n ≡ g n = h n (omega arith) (λ e. absurd (omega arith)) in omega arith
