@@ -2,3 +2,4 @@ pub mod Walk
 pub mod Tokens
 pub mod Reflect
 pub mod Unbroken
+pub mod Agree

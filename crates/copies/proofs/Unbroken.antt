@@ -1,28 +1,26 @@
 -- The walk of specs/FirstBroken.antt finds no rule broken exactly where specs/Facts.antt holds, and so where the tests do.
 -- Assumes nothing.
-use Prim.Native.Nat.{ℕ, zero, suc, _≤_, _<_}
+use Prim.Native.Nat.{ℕ, zero, suc}
 use native.Mathlib.Nat.{le-trans}
-use native.Mathlib.Omega.{arith}
-use mathlib.Core.Path.{_≡_, refl, sym}
+use mathlib.Core.Path.{_≡_, refl}
 use mathlib.Core.Bool.{Bool, true, false, cond}
-use lib.ListN.{getD}
-use Rattle.words.specs.declared.Found.{Found}
-use Rattle.words.specs.declared.Found.the-variants.{Short, Broken, Whole}
+use Rattle.words.specs.declared.Found.the-variants.{Short, Whole}
 use Rattle.words.specs.Numbers.{stationCount, seriesCount}
-use Rattle.words.specs.Tests.{_and_, broken, _orElse_, firstBelow}
-use Rattle.words.proofs.Reflects.{Reflects, Clears, clears-as, clears-broken, clears-or, clears-cond, clears-first}
+use Rattle.words.specs.Tests.{_and_}
+use Rattle.words.proofs.Reflects.{Clears, clears-as, clears-broken, clears-or, clears-cond, clears-first}
 use Rattle.copies.specs.Tables.{Copies, Series, seriesAt, isOpen, next, shortCopies}
-use Rattle.copies.specs.Whole.{W1bounds, W1copy, W1sent, W1release, W1marks, W2open, W3station, W5release, W5closed, W1copies, W2copies, W3copies, W5copies}
+use Rattle.copies.specs.Whole.{W2open, W3station, W5closed, W1copies, W2copies, W3copies, W5copies}
 use Rattle.copies.specs.FirstBroken.{brokenKept, brokenStation, brokenSeries, firstBroken, foundBy, checkCopies}
-use Rattle.copies.specs.Facts.{Open, W1At, OneToken, Agrees, W3At, W5At, OpenWhole, ClosedWhole, CopiesWhole}
+use Rattle.copies.specs.Facts.{OneToken, Agrees, W3At, W5At, OpenWhole, CopiesWhole}
 use Rattle.copies.proofs.Tokens.{W2-reflects}
-use Rattle.copies.proofs.Reflect.{Each, Every, SeriesWhole, Bounds, W1Copy, W1Release, is-zero, isOpen-reflects, W1bounds-reflects, W1own-reflects, W1release-reflects, to-W1, from-W1, W3station-reflects, W5release-reflects, W5closed-reflects, W1marks-reflects, copies-facts, facts-copies}
+use Rattle.copies.proofs.Reflect.{Each, SeriesWhole, Bounds, W1Copy, W1Release, is-zero, isOpen-reflects, W1bounds-reflects, W1own-reflects, W1release-reflects, to-W1, from-W1, W3station-reflects, W5release-reflects, W5closed-reflects, W1marks-reflects, copies-facts, facts-copies}
 
 module _ (r : Series) where
   -- what the walk tests of station n
   abbrev Tested : ℕ → Type 0
   Tested n = (W1Copy r n × (W1Release r n × W5At r n)) × W3At r n
 
+  -- and of which it finds nothing broken
   station-clears : (n : ℕ) → Clears (brokenStation r n) (Tested n)
   unfolding brokenStation brokenKept
   station-clears n =
@@ -75,7 +73,8 @@ found-whole false zero e = (refl, refl)
 found-whole false (suc k) e = (refl, cc)
 
 module _ (t : Copies) where
-  walk-clears : Clears (firstBroken t) (CopiesWhole t)
+  -- the walk passes the tables exactly where they are whole
+  pub walk-clears : Clears (firstBroken t) (CopiesWhole t)
   unfolding firstBroken
   walk-clears =
       clears-as
@@ -104,7 +103,7 @@ module _ (t : Copies) where
   unfolding checkCopies
   check-whole e = let found = found-whole (shortCopies t) (firstBroken t) e in (found .0, walk-facts (found .1))
 
-  -- and of all of them
+  -- and of all such
   pub whole-check : shortCopies t ≡ false → CopiesWhole t → checkCopies t ≡ Whole
   unfolding checkCopies foundBy
   whole-check e w = rw (e, facts-walk w)

@@ -1,4 +1,4 @@
--- Walks over two functions that agree below the bound, and a sum over two that agree there save at one place.
+-- Walks over two functions that agree at each number below the bound, and sums over two that agree there save at one place.
 -- Assumes nothing.
 use Prim.Native.Nat.{ℕ, zero, suc, _+_, _<_}
 use native.Mathlib.Nat.{not-suc-le-zero, le-of-suc-le-suc, eq-or-lt-of-le}
@@ -6,11 +6,7 @@ use native.Mathlib.Omega.{arith}
 use mathlib.Core.Path.{_≡_, refl}
 use mathlib.Core.Logic.{⊎-elim}
 use mathlib.Core.Bool.{Bool, true, false}
-use Rattle.words.specs.Tests.{_and_, allBelow, someBelow, leastBelow, sumBelow, _orElse_, firstBelow}
-
--- two functions give the same at each number below n
-abbrev pub SameBelow : {A : Type 0} → ℕ → (f g : ℕ → A) → Type 0
-SameBelow n f g = (i : ℕ) → i < n → f i ≡ g i
+use Rattle.words.specs.Tests.{_and_, allBelow, someBelow, sumBelow, firstBelow}
 
 -- one test and another, where the second counts only if the first holds
 pub and-same : (a b c : Bool) → (a ≡ true → b ≡ c) → (a and b) ≡ (a and c)
@@ -18,33 +14,26 @@ unfolding _and_
 and-same true b c h = h refl
 and-same false b c h = refl
 
--- and so for the first rule broken of two
-pub or-else-same : (a b c : ℕ) → (a ≡ 0 → b ≡ c) → (a orElse b) ≡ (a orElse c)
-unfolding _orElse_
-or-else-same zero b c h = h refl
-or-else-same (suc a) b c h = refl
+-- two functions give the same at each number below n
+abbrev pub SameBelow : {A : Type 0} → ℕ → (f g : ℕ → A) → Type 0
+SameBelow n f g = (i : ℕ) → i < n → f i ≡ g i
 
 -- what is the same below n + 1 is the same below n
 fewer : {A : Type 0} (n : ℕ) (f g : ℕ → A) → SameBelow (suc n) f g → SameBelow n f g
 fewer n f g h i l = h i (omega arith)
 
--- all
+-- ---- the walks
+-- the test of all
 pub all-same : (n : ℕ) (f g : ℕ → Bool) → SameBelow n f g → allBelow n f ≡ allBelow n g
 unfolding allBelow
 all-same zero f g h = refl
 all-same (suc n) f g h = rw (all-same n f g (fewer n f g h), h n (omega arith))
 
--- some
+-- of some
 pub some-same : (n : ℕ) (f g : ℕ → Bool) → SameBelow n f g → someBelow n f ≡ someBelow n g
 unfolding someBelow
 some-same zero f g h = refl
 some-same (suc n) f g h = rw (some-same n f g (fewer n f g h), h n (omega arith))
-
--- the least
-pub least-same : (n : ℕ) (f g : ℕ → Bool) → SameBelow n f g → leastBelow n f ≡ leastBelow n g
-unfolding leastBelow
-least-same zero f g h = refl
-least-same (suc n) f g h = rw (some-same n f g (fewer n f g h), least-same n f g (fewer n f g h), h n (omega arith))
 
 -- the sum
 pub sum-same : (n : ℕ) (f g : ℕ → ℕ) → SameBelow n f g → sumBelow n f ≡ sumBelow n g
