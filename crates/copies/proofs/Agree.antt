@@ -1,5 +1,4 @@
--- What the layer's rules read of a series: its bounds, what the eight stations keep, and what each has received from each.
--- Two series that agree there keep or break the same rules, so that what changes one series leaves the others' rules alone.
+-- Two series that agree in their bounds, in what each station keeps and in what each has received from each, keep or break the same rules.
 -- Assumes nothing.
 use Prim.Native.Nat.{ℕ, _<_}
 use mathlib.Core.Path.{_≡_, sym, _∙_}
