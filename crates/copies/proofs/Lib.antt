@@ -3,3 +3,7 @@ pub mod Guards
 pub mod Messages
 pub mod Row
 pub mod Reading
+pub mod Tokens
+pub mod Reflect
+pub mod Unbroken
+pub mod Agree

@@ -134,3 +134,42 @@ broken-no k b e = rw e
 pub broken-yes : (k : ℕ) (b : Bool) → b ≡ false → k ≡ broken k b
 unfolding broken
 broken-yes k b e = rw e
+
+-- ---- some, and the least
+-- what holds of one holds of some
+pub true-some : (n : ℕ) (f : ℕ → Bool) (i : ℕ) → i < n → f i ≡ true → someBelow n f ≡ true
+unfolding someBelow _or_
+true-some zero f i l e = absurd (not-suc-le-zero l)
+true-some (suc n) f i l e = ⊎-elim (λ q. here q) (λ lt. rw (true-some n f i lt e)) (eq-or-lt-of-le (le-of-suc-le-suc l))
+  where
+    last : (a : Bool) → (a || true) ≡ true
+    last true = refl
+    last false = refl
+
+    here : i ≡ n → (someBelow n f || f n) ≡ true
+    here q = rw (← q, e) (last (someBelow i f))
+
+-- one number more is least, or one below it is
+least-step : (n : ℕ) (f : ℕ → Bool) (a : Bool) → (a ≡ true → (leastBelow n f < n) × (f (leastBelow n f) ≡ true)) → a ≡ someBelow n f → (a or f n) ≡ true → (leastBelow (suc n) f < suc n) × (f (leastBelow (suc n) f) ≡ true)
+unfolding leastBelow _or_
+least-step n f true low p e = rw (← p) (let l : leastBelow n f < n = low refl .0 in omega arith, low refl .1)
+least-step n f false low p e = rw (← p, e) (omega arith, e)
+
+-- where some holds, the least is one of them
+pub least-true : (n : ℕ) (f : ℕ → Bool) → someBelow n f ≡ true → (leastBelow n f < n) × (f (leastBelow n f) ≡ true)
+unfolding someBelow
+least-true zero f e = absurd (true≢false (sym e))
+least-true (suc n) f e = least-step n f (someBelow n f) (least-true n f) refl e
+
+-- a test more, that holds or doesn't
+count-step : (c : ℕ) (a b : Bool) → (1 ≤ c → a ≡ true) → 1 ≤ c + oneIf b → (a or b) ≡ true
+unfolding oneIf _or_
+count-step c true b h l = refl
+count-step c false true h l = refl
+count-step c false false h l = h (omega arith)
+
+-- where the count isn't 0, some holds
+pub count-some : (n : ℕ) (f : ℕ → Bool) → 1 ≤ sumBelow n (λ i. oneIf (f i)) → someBelow n f ≡ true
+unfolding sumBelow someBelow
+count-some zero f l = absurd (omega arith)
+count-some (suc n) f l = count-step (sumBelow n (λ i. oneIf (f i))) (someBelow n f) (f n) (count-some n f) l

@@ -70,6 +70,10 @@ reflects-all P n f h = (λ e i l. h i l .0 (all-true n f e i l), λ w. true-all 
 abbrev pub Clears : ℕ → Type 0 → Type 0
 Clears r P = (r ≡ 0 → P) × (P → r ≡ 0)
 
+-- the same, said in other words
+pub clears-as : {P Q : Type 0} {r : ℕ} → (P → Q) → (Q → P) → Clears r P → Clears r Q
+clears-as f g p = (λ e. f (p .0 e), λ w. p .1 (g w))
+
 pub clears-broken : {P : Type 0} (k : ℕ) (a : Bool) → Reflects a P → Clears (broken (suc k) a) P
 unfolding broken
 clears-broken k true p = (λ e. p .0 refl, λ w. refl)
