@@ -1,1 +1,5 @@
 pub mod Walk
+pub mod Long
+pub mod There
+pub mod Columns
+pub mod Leaves
