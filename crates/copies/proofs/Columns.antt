@@ -7,7 +7,7 @@ use mathlib.Core.Path.{_≡_, refl, _∙_}
 use mathlib.Core.Logic.{_≢_, dite}
 use mathlib.Core.List.{List, [], _∷_}
 use lib.ListN.{getD, set, length, length-set, replicate}
-use lib.Seq.{sets, getD-set-same, getD-set-other, length-sets, lt-length-set}
+use lib.Seq.{sets, getD-set-same, getD-set-other, length-sets, lt-length-set, lt-length-sets}
 use Rattle.words.specs.Numbers.{stationCount}
 use Rattle.copies.specs.Tables.{place, receivedPlace}
 
@@ -53,6 +53,26 @@ module _ (l : List ℕ) (s v : ℕ) where
   pub row-series : {i n : ℕ} → n < stationCount → i ≢ s → getD (withRow l s v) (place i n) 0 ≡ getD l (place i n) 0
   row-series {i} {n} hn ne =
       sets-outside (replicate stationCount v) l (place s 0) (place i n) (λ le lt. ne (omega arith))
+
+-- the same with w for station n
+abbrev pub withRowBut : List ℕ → ℕ → ℕ → ℕ → ℕ → List ℕ
+withRowBut l s v n w = set (withRow l s v) (place s n) w
+
+module _ (l : List ℕ) (s v n w : ℕ) where
+  -- the station's entry is w
+  pub row-but-same : place s n < length l → getD (withRowBut l s v n w) (place s n) 0 ≡ w
+  row-but-same h =
+      getD-set-same (withRow l s v) (place s n) w 0 (lt-length-sets l (place s 0) (replicate stationCount v) h)
+
+  -- those of the other stations are v
+  pub row-but-station : {m : ℕ} → m < stationCount → place s m < length l → m ≢ n → getD (withRowBut l s v n w) (place s m) 0 ≡ v
+  row-but-station {m} hm h ne =
+      getD-set-other (withRow l s v) (place s n) (place s m) w 0 (λ e. ne (omega arith)) ∙ row-station l s v hm h
+
+  -- the entries of other series stay
+  pub row-but-series : {i m : ℕ} → n < stationCount → m < stationCount → i ≢ s → getD (withRowBut l s v n w) (place i m) 0 ≡ getD l (place i m) 0
+  row-but-series {i} {m} hn hm ne =
+      getD-set-other (withRow l s v) (place s n) (place i m) w 0 (λ e. ne (place-same hn hm e .0)) ∙ row-series l s v hm ne
 
 -- ---- length, and what stands past the stated size
 -- Column l′ is as long as l, and differs from it at most below the size.

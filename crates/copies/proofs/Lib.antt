@@ -3,3 +3,4 @@ pub mod Long
 pub mod There
 pub mod Columns
 pub mod Leaves
+pub mod After
