@@ -1,22 +1,21 @@
--- The layer's promise: the series that each operation of specs/Steps.antt makes of the one that it names; and, by `Leaves`, that it
--- leaves all other series, the stations' marks, the columns' lengths and all entries past their stated sizes as they were.
+-- The layer's promise: what each operation of specs/Steps.antt makes of the series that it names, and that nothing else changes.
 -- Assumes nothing.
-use Prim.Native.Nat.{ℕ, suc, _+_, _*_, _≤_, _<_}
+use Prim.Native.Nat.{ℕ, _+_, _≤_, _<_}
 use native.Mathlib.Omega.{arith}
-use mathlib.Core.Path.{_≡_, refl, sym, subst, _∙_}
+use mathlib.Core.Path.{_≡_, refl, ap, subst}
 use mathlib.Core.Logic.{_≢_}
-use mathlib.Core.List.{List}
 use lib.Dec.{eqb}
-use lib.ListN.{getD, set, length, replicate}
-use lib.Seq.{getD-set-same, getD-set-other, set-getD, lt-length-sets}
-use Rattle.words.specs.Numbers.{stationCount, seriesCount, placeCount, receivedCount, void, share, exclusive}
+use lib.ListN.{getD}
+use lib.Seq.{getD-set-same, getD-set-other, set-getD}
+use Rattle.words.specs.Numbers.{stationCount, seriesCount, placeCount, void, share, exclusive}
 use Rattle.copies.specs.declared.Kept.{Kept}
-use Rattle.copies.specs.Tables.{Copies, tables, withCopies, withReleases, Series, seriesAt, keptAt, place, receivedPlace, isUp, kind, value, sentCount, relKind, relValue}
-use Rattle.copies.specs.Steps.{putKind, putCopy, putRelease, putSent, opened, raised, released, sentOff, demoted, shared, dropped, promoted, arrived, deleted, marked}
-use Rattle.copies.proofs.There.{there, there-cases, there-same, there-other}
+use Rattle.copies.specs.Tables.{Copies, Series, seriesAt, keptAt, place, isUp, kind, value, sentCount, relKind, relValue}
+use Rattle.copies.specs.Steps.{putKind, opened, raised, released, sentOff, demoted, shared, dropped, promoted, arrived, deleted, marked}
+use Rattle.copies.proofs.There.{there, there-cases}
 use Rattle.copies.proofs.Long.{Long}
-use Rattle.copies.proofs.Columns.{received-same, withRow, row-station, row-series, row-but-same, row-but-station, row-but-series, only-none, only-set, only-sets, only-then}
-use Rattle.copies.proofs.Leaves.{Alike, OnlyStated, Leaves, put, put-leaves, Receives}
+use Rattle.copies.proofs.Columns.{withRow, row-station, row-series, row-but-same, row-but-station, row-but-series, only-none, only-set, only-row, only-then}
+use Rattle.copies.proofs.Received.{receives-none, receives-one}
+use Rattle.copies.proofs.Leaves.{OnlyStated, Leaves, put, put-leaves}
 
 -- ---- one series, by the operation
 -- what a station keeps, with another copy
@@ -51,11 +50,11 @@ seriesRaised r n count = keeping r n (withCopy (r .kept n) (kind r n) (value r n
 abbrev pub seriesTurned : Series → (n kind : ℕ) → Series
 seriesTurned r n k = keeping r n (withCopy (r .kept n) k (value r n))
 
--- SHARE: one transfer more, its Release with the copy's value
+-- SHARE: the sent count one higher, a Release with the copy's value
 abbrev pub seriesReleased : Series → (from to kind : ℕ) → Series
 seriesReleased r from to k = keeping r from (withRelease (r .kept from) (sentCount r from + 1) to k (value r from))
 
--- SEND: the same, and the copy void
+-- SEND: the same, and the copy void with its value kept
 abbrev pub seriesSentOff : Series → (from to : ℕ) → Series
 seriesSentOff r from to =
     keeping r from (withRelease (withCopy (r .kept from) void (value r from)) (sentCount r from + 1) to exclusive (value r from))
@@ -75,14 +74,10 @@ abbrev pub seriesDeleted : Series → (from : ℕ) → Series
 seriesDeleted r from = keeping r from (withRelease (r .kept from) (sentCount r from) 0 0 0)
 
 -- ---- operations on what one station keeps
--- received numbers that aren't stored to
-receives-none : (t : Copies) (s : ℕ) → Receives (t .received) (t .received) s (seriesAt t s .received)
-receives-none t s = record { here = λ n m hn hm. refl; elsewhere = λ i ne n m hn hm. refl; only = only-none }
-
 module _ {t : Copies} {s n : ℕ} (h : Long t) (hs : s < seriesCount) (hn : n < stationCount) where
   -- a store of what the station keeps
   put-one : (t′ : Copies) (a : Kept) → put t s n a (t .received) ≡ t′ → Leaves t t′ s (keeping (seriesAt t s) n a)
-  put-one t′ a e = subst (λ (u : Copies). Leaves t u s (keeping (seriesAt t s) n a)) e (put-leaves a h hs hn (receives-none t s))
+  put-one t′ a e = subst (λ (u : Copies). Leaves t u s (keeping (seriesAt t s) n a)) e (put-leaves a h hs hn (receives-none (t .received) s))
 
   -- another kind of its copy
   after-kind : (k : ℕ) → Leaves t (putKind t s n k) s (seriesTurned (seriesAt t s) n k)
@@ -128,32 +123,14 @@ module _ {t : Copies} {s n : ℕ} (h : Long t) (hs : s < seriesCount) (hn : n < 
   unfolding deleted
   after-deleted = put-one _ _ (simp set-getD)
 
--- ---- GRANT
-module _ {t : Copies} {s from to : ℕ} (h : Long t) (hs : s < seriesCount) (hf : from < stationCount) (ht : to < stationCount) (number : ℕ) where
-  -- the received numbers, with the receiver's from the sender raised
-  receives-one : Receives (t .received) (set (t .received) (receivedPlace s to from) number) s (seriesArrived (seriesAt t s) from to number .received)
-  receives-one =
-      let at : receivedPlace s to from < receivedCount = omega arith in
-      let old : ℕ → ℕ → ℕ = seriesAt t s .received in
-      let new : ℕ → ℕ → ℕ → ℕ = λ i n m. getD (set (t .received) (receivedPlace s to from) number) (receivedPlace i n m) 0 in
-      let same : new s to from ≡ number = getD-set-same (t .received) (receivedPlace s to from) number 0 (omega (arith, h .received)) in
-      let other : (i n m : ℕ) → receivedPlace i n m ≢ receivedPlace s to from → new i n m ≡ seriesAt t i .received n m =
-          λ i n m ne. getD-set-other (t .received) (receivedPlace s to from) (receivedPlace i n m) number 0 ne in
-      record {
-        here =
-            λ n m hn hm. there-cases (λ (f : ℕ → ℕ). new s n m ≡ f m) to (there from number (old to)) old n
-            (λ e. rw e (there-cases (λ (k : ℕ). new s to m ≡ k) from number (old to) m (λ q. rw q same) (λ ne. other s to m (λ q. ne (received-same ht hf ht hm q .2)))))
-            (λ ne. other s n m (λ q. ne (received-same ht hf hn hm q .1)));
-        elsewhere = λ i ne n m hn hm. other i n m (λ q. ne (received-same ht hf hn hm q .0));
-        only = only-set (t .received) number at;
-      }
-
-  -- GRANT
-  pub after-arrived : Leaves t (arrived t s from to number) s (seriesArrived (seriesAt t s) from to number)
-  unfolding arrived
-  after-arrived =
-      subst (λ (u : Copies). Leaves t u s (seriesArrived (seriesAt t s) from to number)) (simp set-getD)
-      (put-leaves (withCopy (keptAt t s to) (relKind (seriesAt t s) from) (relValue (seriesAt t s) from)) h hs ht receives-one)
+-- GRANT
+pub after-arrived : {t : Copies} {s from to : ℕ} → Long t → s < seriesCount → from < stationCount → to < stationCount → (number : ℕ)
+    → Leaves t (arrived t s from to number) s (seriesArrived (seriesAt t s) from to number)
+unfolding arrived
+after-arrived {t} {s} {from} {to} h hs hf ht number =
+    subst (λ (u : Copies). Leaves t u s (seriesArrived (seriesAt t s) from to number)) (simp set-getD)
+    (put-leaves (withCopy (keptAt t s to) (relKind (seriesAt t s) from) (relValue (seriesAt t s) from)) h hs ht
+    (receives-one (t .received) number (h .received) hs ht hf))
 
 -- ---- OPEN
 module _ {t : Copies} {s n : ℕ} (h : Long t) (hs : s < seriesCount) (hn : n < stationCount) (first last : ℕ) where
@@ -163,15 +140,15 @@ module _ {t : Copies} {s n : ℕ} (h : Long t) (hs : s < seriesCount) (hn : n < 
   open-kept m hm =
       let at : place s m < placeCount = omega arith in
       let values : getD (withRow (t .values) s first) (place s m) 0 ≡ first = row-station (t .values) s first hm (omega (arith, h .values)) in
-      there-cases (λ (b : Kept). keptAt (opened t s first last n) s m ≡ b) n (withCopy (keptAt t s n) exclusive first) (λ j. withCopy (keptAt t s j) void first) m
+      there-cases (λ (b : Kept). keptAt (opened t s first last n) s m ≡ b) n _ _ m
       (λ e. rw (← e) (λ x. withCopy (keptAt t s m) (row-but-same (t .kinds) s void m exclusive (omega (arith, h .kinds)) x) (values x)))
       (λ ne x. withCopy (keptAt t s m) (row-but-station (t .kinds) s void n exclusive hm (omega (arith, h .kinds)) ne x) (values x))
 
-  -- OPEN
+  -- the whole of it
   pub after-opened : Leaves t (opened t s first last n) s (seriesOpened (seriesAt t s) first last n)
   unfolding opened
   after-opened =
-      let row : place s 0 + stationCount ≤ placeCount = omega arith in
+      let row : place s stationCount ≤ placeCount = omega arith in
       record {
         here = record {
           first = getD-set-same (t .firsts) s first 0 (omega (arith, h .firsts));
@@ -189,8 +166,8 @@ module _ {t : Copies} {s n : ℕ} (h : Long t) (hs : s < seriesCount) (hn : n < 
         only = record {
           firsts = only-set (t .firsts) first hs;
           lasts = only-set (t .lasts) last hs;
-          kinds = only-then (only-set (withRow (t .kinds) s void) exclusive (omega arith)) (only-sets (t .kinds) (place s 0) (replicate stationCount void) row);
-          values = only-sets (t .values) (place s 0) (replicate stationCount first) row;
+          kinds = only-then (only-row (t .kinds) s void row) (only-set (withRow (t .kinds) s void) exclusive (omega arith));
+          values = only-row (t .values) s first row;
           sent = only-none;
           relTo = only-none;
           relKind = only-none;
@@ -206,7 +183,15 @@ pub record Marks (t t′ : Copies) (n mark : ℕ) : Type 0 where
   pub series : (i : ℕ) → seriesAt t′ i ≡ seriesAt t i
   pub here : getD (t′ .up) n 0 ≡ mark
   pub elsewhere : (m : ℕ) → m ≢ n → getD (t′ .up) m 0 ≡ getD (t .up) m 0
-  pub only : OnlyStated t′ t
+  pub only : OnlyStated t t′
+
+-- station n is up where its mark is 1
+pub marks-here : {t t′ : Copies} {n mark : ℕ} → Marks t t′ n mark → isUp t′ n ≡ eqb mark 1
+marks-here e = ap (λ (k : ℕ). eqb k 1) (e .here)
+
+-- the others are up where they were
+pub marks-elsewhere : {t t′ : Copies} {n mark : ℕ} → Marks t t′ n mark → (m : ℕ) → m ≢ n → isUp t′ m ≡ isUp t m
+marks-elsewhere e m ne = ap (λ (k : ℕ). eqb k 1) (e .elsewhere m ne)
 
 -- CRASH with mark 0, RESTART with mark 1
 pub after-marked : {t : Copies} {n : ℕ} → Long t → n < stationCount → (mark : ℕ) → Marks t (marked t n mark) n mark

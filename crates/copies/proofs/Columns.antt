@@ -1,6 +1,6 @@
 -- Columns and stores: which places differ, a whole row stored, a column's length, and what stands past its stated size.
 -- Assumes nothing.
-use Prim.Native.Nat.{ℕ, zero, suc, _+_, _*_, _≤_, _<_}
+use Prim.Native.Nat.{ℕ, zero, suc, _+_, _≤_, _<_}
 use native.Mathlib.Decide.{ℕ-discrete}
 use native.Mathlib.Omega.{arith}
 use mathlib.Core.Path.{_≡_, refl, _∙_}
@@ -26,14 +26,14 @@ received-same hk hf hn hm e =
 
 -- ---- a row of entries
 -- a run of stores leaves what lies outside of it
-pub sets-outside : (vs l : List ℕ) (i j : ℕ) → (i ≤ j → j < i + length vs → ⊥) → getD (sets l i vs) j 0 ≡ getD l j 0
+sets-outside : (vs l : List ℕ) (i j : ℕ) → (i ≤ j → j < i + length vs → ⊥) → getD (sets l i vs) j 0 ≡ getD l j 0
 sets-outside [] l i j out = refl
 sets-outside (a ∷ vs) l i j out =
     sets-outside vs (set l i a) (suc i) j (λ le lt. out (omega arith) (omega arith))
     ∙ getD-set-other l i j a 0 (λ e. out (omega arith) (omega arith))
 
 -- a run of c stores of v makes each entry in it v
-pub sets-inside : (c : ℕ) (l : List ℕ) (i j v : ℕ) → i ≤ j → j < i + c → j < length l → getD (sets l i (replicate c v)) j 0 ≡ v
+sets-inside : (c : ℕ) (l : List ℕ) (i j v : ℕ) → i ≤ j → j < i + c → j < length l → getD (sets l i (replicate c v)) j 0 ≡ v
 sets-inside zero l i j v le lt h = absurd (omega arith)
 sets-inside (suc c) l i j v le lt h =
     dite (ℕ-discrete j i)
@@ -76,7 +76,7 @@ module _ (l : List ℕ) (s v n w : ℕ) where
 
 -- ---- length, and what stands past the stated size
 -- Column l′ is as long as l, and differs from it at most below the size.
-pub record OnlyBelow (size : ℕ) (l′ l : List ℕ) : Type 0 where
+pub record OnlyBelow (size : ℕ) (l l′ : List ℕ) : Type 0 where
   pub sameLength : length l′ ≡ length l
   pub extra : (j : ℕ) → size ≤ j → getD l′ j 0 ≡ getD l j 0
 
@@ -85,15 +85,18 @@ pub only-none : {size : ℕ} {l : List ℕ} → OnlyBelow size l l
 only-none = record { sameLength = refl; extra = λ j h. refl }
 
 -- a store below the size
-pub only-set : {size i : ℕ} (l : List ℕ) (v : ℕ) → i < size → OnlyBelow size (set l i v) l
+pub only-set : {size i : ℕ} (l : List ℕ) (v : ℕ) → i < size → OnlyBelow size l (set l i v)
 only-set {size} {i} l v lt =
     record { sameLength = length-set l i v; extra = λ j h. getD-set-other l i j v 0 (λ e. omega arith) }
 
--- a run of stores below the size
-pub only-sets : {size : ℕ} (l : List ℕ) (i : ℕ) (vs : List ℕ) → i + length vs ≤ size → OnlyBelow size (sets l i vs) l
-only-sets {size} l i vs le =
-    record { sameLength = length-sets l i vs; extra = λ j h. sets-outside vs l i j (λ _ lt. omega arith) }
+-- a row within the size
+pub only-row : {size : ℕ} (l : List ℕ) (s v : ℕ) → place s stationCount ≤ size → OnlyBelow size l (withRow l s v)
+only-row {size} l s v le =
+    record {
+      sameLength = length-sets l (place s 0) (replicate stationCount v);
+      extra = λ j h. sets-outside (replicate stationCount v) l (place s 0) j (λ _ lt. omega arith);
+    }
 
--- one after the other
-pub only-then : {size : ℕ} {l″ l′ l : List ℕ} → OnlyBelow size l″ l′ → OnlyBelow size l′ l → OnlyBelow size l″ l
-only-then q p = record { sameLength = q .sameLength ∙ p .sameLength; extra = λ j h. q .extra j h ∙ p .extra j h }
+-- one change after another
+pub only-then : {size : ℕ} {l l′ l″ : List ℕ} → OnlyBelow size l l′ → OnlyBelow size l′ l″ → OnlyBelow size l l″
+only-then p q = record { sameLength = q .sameLength ∙ p .sameLength; extra = λ j h. q .extra j h ∙ p .extra j h }

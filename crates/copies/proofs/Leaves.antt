@@ -1,67 +1,70 @@
--- `Leaves`: what an operation on one series leaves of the layer's tables; and one law for all that change what one station keeps.
+-- What an operation on one series leaves of the layer's tables, and one law for all that change what one station keeps.
 -- Assumes nothing.
-use Prim.Native.Nat.{ℕ, _+_, _*_, _≤_, _<_}
+use Prim.Native.Nat.{ℕ, _<_}
 use native.Mathlib.Omega.{arith}
-use mathlib.Core.Path.{_≡_, refl, sym, ap, _∙_}
+use mathlib.Core.Path.{_≡_, refl, ap, _∙_}
 use mathlib.Core.Logic.{_≢_}
 use mathlib.Core.List.{List}
 use lib.Dec.{eqb}
-use lib.ListN.{getD, set, length}
+use lib.ListN.{getD, set}
 use lib.Seq.{getD-set-same, getD-set-other}
 use Rattle.words.specs.Numbers.{stationCount, seriesCount, placeCount, receivedCount}
 use Rattle.copies.specs.declared.Kept.{Kept}
-use Rattle.copies.specs.Tables.{Copies, tables, Series, seriesAt, keptAt, place, receivedPlace, shortCopies, isUp}
+use Rattle.copies.specs.Tables.{Copies, tables, Series, seriesAt, keptAt, place, shortCopies, isUp}
 use Rattle.copies.proofs.There.{there, there-cases}
+use Rattle.copies.proofs.Same.{Same}
 use Rattle.copies.proofs.Long.{Long, long, long-short}
-use Rattle.copies.proofs.Columns.{place-same, received-same, OnlyBelow, only-none, only-set}
+use Rattle.copies.proofs.Received.{Receives}
+use Rattle.copies.proofs.Columns.{place-same, OnlyBelow, only-none, only-set}
 
--- Two series with the same bounds, of which each station keeps and has received the same.
-pub record Alike (r′ r : Series) : Type 0 where
-  pub first : r′ .first ≡ r .first
-  pub last : r′ .last ≡ r .last
-  pub kept : (n : ℕ) → n < stationCount → r′ .kept n ≡ r .kept n
-  pub received : (n m : ℕ) → n < stationCount → m < stationCount → r′ .received n m ≡ r .received n m
+-- From t to t′: columns as long as before, and changed at most within their stated sizes.
+pub record OnlyStated (t t′ : Copies) : Type 0 where
+  pub firsts : OnlyBelow seriesCount (t .firsts) (t′ .firsts)
+  pub lasts : OnlyBelow seriesCount (t .lasts) (t′ .lasts)
+  pub kinds : OnlyBelow placeCount (t .kinds) (t′ .kinds)
+  pub values : OnlyBelow placeCount (t .values) (t′ .values)
+  pub sent : OnlyBelow placeCount (t .sent) (t′ .sent)
+  pub relTo : OnlyBelow placeCount (t .relTo) (t′ .relTo)
+  pub relKind : OnlyBelow placeCount (t .relKind) (t′ .relKind)
+  pub relValue : OnlyBelow placeCount (t .relValue) (t′ .relValue)
+  pub received : OnlyBelow receivedCount (t .received) (t′ .received)
+  pub up : OnlyBelow stationCount (t .up) (t′ .up)
 
--- Columns as long as before, and changed at most within their stated sizes.
-pub record OnlyStated (t′ t : Copies) : Type 0 where
-  pub firsts : OnlyBelow seriesCount (t′ .firsts) (t .firsts)
-  pub lasts : OnlyBelow seriesCount (t′ .lasts) (t .lasts)
-  pub kinds : OnlyBelow placeCount (t′ .kinds) (t .kinds)
-  pub values : OnlyBelow placeCount (t′ .values) (t .values)
-  pub sent : OnlyBelow placeCount (t′ .sent) (t .sent)
-  pub relTo : OnlyBelow placeCount (t′ .relTo) (t .relTo)
-  pub relKind : OnlyBelow placeCount (t′ .relKind) (t .relKind)
-  pub relValue : OnlyBelow placeCount (t′ .relValue) (t .relValue)
-  pub received : OnlyBelow receivedCount (t′ .received) (t .received)
-  pub up : OnlyBelow stationCount (t′ .up) (t .up)
-
--- An operation on series s: s is as r says, all other series and the stations' marks are as they were.
+-- From t to t′: series s is as r says; all other series, the stations' marks and what stands past the stated sizes are as they were.
 pub record Leaves (t t′ : Copies) (s : ℕ) (r : Series) : Type 0 where
-  pub here : Alike (seriesAt t′ s) r
-  pub elsewhere : (i : ℕ) → i ≢ s → Alike (seriesAt t′ i) (seriesAt t i)
+  pub here : Same (seriesAt t′ s) r
+  pub elsewhere : (i : ℕ) → i ≢ s → Same (seriesAt t′ i) (seriesAt t i)
   pub up : t′ .up ≡ t .up
-  pub only : OnlyStated t′ t
+  pub only : OnlyStated t t′
 
 -- ---- what follows
 -- refusal 1 is given of the tables afterwards where it was given before
-pub only-short : {t′ t : Copies} → OnlyStated t′ t → shortCopies t′ ≡ shortCopies t
+pub only-short : {t t′ : Copies} → OnlyStated t t′ → shortCopies t′ ≡ shortCopies t
 unfolding shortCopies
 only-short o =
     rw (
-      o .firsts .sameLength, o .lasts .sameLength, o .kinds .sameLength, o .values .sameLength, o .sent .sameLength,
-      o .relTo .sameLength, o .relKind .sameLength, o .relValue .sameLength, o .received .sameLength, o .up .sameLength
+      o .firsts .sameLength,
+      o .lasts .sameLength,
+      o .kinds .sameLength,
+      o .values .sameLength,
+      o .sent .sameLength,
+      o .relTo .sameLength,
+      o .relKind .sameLength,
+      o .relValue .sameLength,
+      o .received .sameLength,
+      o .up .sameLength,
     )
 
 -- so the tables stay long enough
-pub only-long : {t′ t : Copies} → OnlyStated t′ t → Long t → Long t′
+pub only-long : {t t′ : Copies} → OnlyStated t t′ → Long t → Long t′
 only-long o h = long (only-short o ∙ long-short h)
 
 -- the stations that were up are up
 pub leaves-up : {t t′ : Copies} {s : ℕ} {r : Series} → Leaves t t′ s r → (n : ℕ) → isUp t′ n ≡ isUp t n
 leaves-up e n = ap (λ (l : List ℕ). eqb (getD l n 0) 1) (e .up)
 
--- ---- what station n keeps of series s
--- with a as what the station keeps, and other received numbers
+-- ---- what one station keeps
+-- the tables in which station n keeps a of series s, and with other received numbers
 abbrev pub put : Copies → ℕ → ℕ → Kept → List ℕ → Copies
 put t s n a gs =
     tables (t .firsts) (t .lasts) (set (t .kinds) (place s n) (a .kind)) (set (t .values) (place s n) (a .value))
@@ -93,24 +96,17 @@ put-other t s n a gs i m ne =
       relvalue = getD-set-other (t .relValue) (place s n) (place i m) (a .relvalue) 0 ne x;
     }
 
--- What received numbers are after a change: those of series s as got says, all others as they were.
-pub record Receives (l l′ : List ℕ) (s : ℕ) (got : ℕ → ℕ → ℕ) : Type 0 where
-  pub here : (n m : ℕ) → n < stationCount → m < stationCount → getD l′ (receivedPlace s n m) 0 ≡ got n m
-  pub elsewhere : (i : ℕ) → i ≢ s → (n m : ℕ) → n < stationCount → m < stationCount
-      → getD l′ (receivedPlace i n m) 0 ≡ getD l (receivedPlace i n m) 0
-  pub only : OnlyBelow receivedCount l′ l
-
 -- what an operation leaves that changes what one station keeps, and perhaps received numbers
 pub put-leaves : {t : Copies} {s n : ℕ} (a : Kept) {gs : List ℕ} {got : ℕ → ℕ → ℕ} → Long t → s < seriesCount → n < stationCount
     → Receives (t .received) gs s got
     → Leaves t (put t s n a gs) s
-      (record { first = getD (t .firsts) s 0; last = getD (t .lasts) s 0; kept = there n a (keptAt t s); received = got })
+    (record { first = getD (t .firsts) s 0; last = getD (t .lasts) s 0; kept = there n a (keptAt t s); received = got })
 put-leaves {t} {s} {n} a {gs} h hs hn g =
     record {
       here = record {
         first = refl;
         last = refl;
-        kept = λ m hm. there-cases (λ (b : Kept). keptAt (put t s n a gs) s m ≡ b) n a (keptAt t s) m
+        kept = λ m hm. there-cases (λ (b : Kept). keptAt (put t s n a gs) s m ≡ b) n _ _ m
             (λ e. rw e (put-same a gs h hs hn))
             (λ ne. put-other t s n a gs s m (λ e. ne (place-same hn hm e .1)));
         received = g .here;
@@ -123,17 +119,17 @@ put-leaves {t} {s} {n} a {gs} h hs hn g =
       };
       up = refl;
       only =
-        let at : place s n < placeCount = omega arith in
-        record {
-          firsts = only-none;
-          lasts = only-none;
-          kinds = only-set (t .kinds) (a .kind) at;
-          values = only-set (t .values) (a .value) at;
-          sent = only-set (t .sent) (a .sent) at;
-          relTo = only-set (t .relTo) (a .relto) at;
-          relKind = only-set (t .relKind) (a .relkind) at;
-          relValue = only-set (t .relValue) (a .relvalue) at;
-          received = g .only;
-          up = only-none;
-        };
+          let at : place s n < placeCount = omega arith in
+          record {
+            firsts = only-none;
+            lasts = only-none;
+            kinds = only-set (t .kinds) (a .kind) at;
+            values = only-set (t .values) (a .value) at;
+            sent = only-set (t .sent) (a .sent) at;
+            relTo = only-set (t .relTo) (a .relto) at;
+            relKind = only-set (t .relKind) (a .relkind) at;
+            relValue = only-set (t .relValue) (a .relvalue) at;
+            received = g .only;
+            up = only-none;
+          };
     }
