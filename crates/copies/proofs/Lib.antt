@@ -6,4 +6,11 @@ pub mod Reading
 pub mod Tokens
 pub mod Reflect
 pub mod Unbroken
+pub mod Same
 pub mod Agree
+pub mod Long
+pub mod There
+pub mod Columns
+pub mod Received
+pub mod Leaves
+pub mod After
