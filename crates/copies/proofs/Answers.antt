@@ -6,9 +6,8 @@ use mathlib.Core.Bool.{Bool, true, false}
 use mathlib.Core.List.{List}
 use lib.ListN.{length}
 use borrow.Author.Tests.{ltb-false}
-use Rattle.words.specs.declared.Found.{Found}
 use Rattle.words.specs.declared.Found.the-variants.{Short, Broken, Whole}
-use Rattle.words.specs.Numbers.{stationCount, seriesCount, placeCount, receivedCount}
+use Rattle.words.specs.Numbers.{stationCount, seriesCount}
 use Rattle.words.specs.Tests.{broken, _orElse_}
 use Rattle.words.proofs.Laws.{neither}
 use Rattle.copies.specs.Tables.{Copies, tables, shortCopies}
@@ -23,14 +22,16 @@ first-found r zero b e h = absurd (h e)
 first-found r (suc a) b e h = rw e
 
 module _ (fs ls ks vs ns rt rk rv gs us : List ℕ) where
-  -- the tables, and that none is short
+  -- the tables
   abbrev all : Copies
   all = tables fs ls ks vs ns rt rk rv gs us
 
+  -- what isn't short has its sizes: the marks
   pub long-marks : shortCopies all ≡ false → stationCount ≤ length us
   unfolding shortCopies
   long-marks e = ltb-false _ _ (neither _ _ e .1)
 
+  -- and all that keeps series
   pub long-series : shortCopies all ≡ false → (seriesCount ≤ length fs) × (seriesCount ≤ length ls) × Sized ks vs ns rt rk rv gs
   unfolding shortCopies
   long-series e =
@@ -55,20 +56,24 @@ module _ (fs ls ks vs ns rt rk rv gs us : List ℕ) where
         },
       )
 
+  -- refusal 1
   pub found-short : shortCopies all ≡ true → Short ≡ checkCopies all
   unfolding checkCopies
   found-short e = rw e
 
   module _ (long : shortCopies all ≡ false) (r : ℕ) (p : r ≡ brokenIn fs ls ks vs ns rt rk rv gs) where
+    -- a rule that a series breaks
     pub found-broken : (r ≡ 0 → ⊥) → Broken r ≡ checkCopies all
     unfolding checkCopies firstBroken brokenIn
     found-broken h = rw long (first-found r _ _ p h)
 
     module _ (z : r ≡ 0) (m : Bool) (q : m ≡ W1marks us) where
+      -- W1 of the marks
       pub found-marks : m ≡ false → Broken 1 ≡ checkCopies all
       unfolding checkCopies firstBroken brokenIn foundBy broken _orElse_
       found-marks e = rw (long, ← p, z, ← q, e)
 
+      -- none
       pub found-whole : m ≡ true → Whole ≡ checkCopies all
       unfolding checkCopies firstBroken brokenIn foundBy broken _orElse_
       found-whole e = rw (long, ← p, z, ← q, e)

@@ -2,7 +2,7 @@
 -- Assumes nothing.
 use Prim.Native.Nat.{ℕ, _+_, _*_}
 use native.Mathlib.Omega.{arith}
-use mathlib.Core.Path.{_≡_, refl, sym, ap, _∙_}
+use mathlib.Core.Path.{_≡_, _∙_}
 use mathlib.Core.Bool.{Bool, _&&_}
 use mathlib.Core.List.{List, []}
 use lib.Dec.{eqb}
@@ -22,6 +22,7 @@ abbrev row : List ℕ → ℕ → Bool
 row l s = zeros l (s * stationCount) stationCount
 
 module _ (ks vs ns rt rk rv gs : List ℕ) (s : ℕ) where
+  -- its received numbers, as one row of 64
   received-rows : zeros gs (s * stationCount * stationCount) (stationCount * stationCount) ≡ allBelow stationCount (W5received (seriesIn [] [] ks vs ns rt rk rv gs s))
   unfolding W5received
   received-rows =
@@ -29,6 +30,7 @@ module _ (ks vs ns rt rk rv gs : List ℕ) (s : ℕ) where
       all-rows stationCount stationCount (λ i. eqb (getD gs (s * stationCount * stationCount + i) 0) 0)
       ∙ (λ x. allBelow stationCount (λ n. allBelow stationCount (λ m. eqb (getD gs (place-is n m x) 0) 0)))
 
+  -- what its stations keep, column by column
   kept-rows : allBelow stationCount (λ n. W5kept (seriesIn [] [] ks vs ns rt rk rv gs s .kept n)) ≡ (row ks s and row vs s and row ns s and row rt s and row rk s and row rv s)
   unfolding W5kept
   kept-rows = simp all-and

@@ -3,12 +3,12 @@
 use Prim.Native.Nat.{ℕ, zero, suc, _+_, _≤_, _<_}
 use native.Mathlib.Omega.{arith}
 use mathlib.Core.Path.{_≡_, refl, sym, ap, _∙_}
-use mathlib.Core.Bool.{Bool, true, false, cond, not, _&&_}
+use mathlib.Core.Bool.{Bool, true, false, not, _&&_}
 use mathlib.Core.List.{List}
 use lib.Dec.{eqb}
 use borrow.Author.Tests.{eq-eqb, ne-eqb, not-true, not-false}
 use Rattle.words.specs.Numbers.{stationCount, seriesCount}
-use Rattle.words.specs.Tests.{non, _and_, allBelow, broken, _orElse_, firstBelow}
+use Rattle.words.specs.Tests.{_and_, non, broken, _orElse_, firstBelow}
 use Rattle.words.proofs.Laws.{or-else-stop, or-else-pass, first-none, first-next, first-zero, first-stop, first-end, broken-no, broken-yes}
 use Rattle.copies.specs.declared.Kept.{Kept}
 use Rattle.copies.specs.Tables.{Series, seriesIn}
@@ -23,16 +23,19 @@ abbrev unbound : Series → Series
 unbound r = record { first = 0; last = 0; kept = r .kept; received = r .received }
 
 -- ---- one series
+-- the tokens are the same
 tally-unbound : (r : Series) (n : ℕ) → tally (unbound r) n ≡ tally r n
 unfolding tally
 tally-unbound r zero = refl
 tally-unbound r (suc n) = rw (tally-unbound r n)
 
 module _ (r : Series) where
+  -- not open: W5 alone
   closed : r .first ≡ 0 → brokenSeries r ≡ broken 5 (W5closed r)
   unfolding brokenSeries non
   closed z = rw (eq-eqb _ _ z)
 
+  -- W5 is of its last number, and of its rows
   last-and-rows : W5closed r ≡ (eqb (r .last) 0 && W5closed (unbound r))
   unfolding W5closed W5received _and_
   last-and-rows = refl
@@ -44,6 +47,7 @@ module _ (r : Series) where
     closed-breaks : (eqb (r .last) 0 && rows) ≡ false → 5 ≡ brokenSeries r
     closed-breaks e = broken-yes 5 (W5closed r) (last-and-rows ∙ rw (← p) e) ∙ sym (closed z)
 
+  -- open: its bounds, its stations, its tokens
   module _ (o : r .first ≡ 0 → ⊥) where
     opened : brokenSeries r ≡ (broken 1 (W1bounds (r .first) (r .last)) orElse firstBelow stationCount (brokenStation r) orElse broken 2 (W2open r))
     unfolding brokenSeries non
@@ -63,10 +67,11 @@ module _ (r : Series) where
 
 -- ---- the walk
 module _ (fs ls ks vs ns rt rk rv gs : List ℕ) where
+  -- series s
   abbrev at : ℕ → Series
   at s = seriesIn fs ls ks vs ns rt rk rv gs s
 
-  -- r is the first broken rule of all series
+  -- r is the first rule that a series breaks
   abbrev Found : ℕ → Type 0
   Found r = r ≡ brokenIn fs ls ks vs ns rt rk rv gs
 
@@ -84,21 +89,25 @@ module _ (fs ls ks vs ns rt rk rv gs : List ℕ) where
     pub bounds : W1bounds (at s .first) (at s .last) ≡ true
     pub stations : firstBelow n (brokenStation (at s)) ≡ 0
 
+  -- before the first series
   pub start : Passed 0
   start = record { most = omega arith; whole = first-none _ }
 
+  -- after the last series
   pub finish : (s r : ℕ) → Passed s → seriesCount ≤ s → r ≡ 0 → Found r
   unfolding brokenIn
   finish s r p l z = z ∙ first-end seriesCount _ s (p .most) l (p .whole)
 
+  -- past a series that breaks no rule
   on : (s j r : ℕ) → s < seriesCount → firstBelow s (λ i. brokenSeries (at i)) ≡ 0 → r ≡ brokenSeries (at s) → r ≡ 0 → j ≡ s + 1 → Passed j
   on s j r l w e z q = record { most = omega arith; whole = first-next _ s j r w e z q }
 
+  -- at a series that breaks one
   stop : (s r : ℕ) → s < seriesCount → firstBelow s (λ i. brokenSeries (at i)) ≡ 0 → r ≡ brokenSeries (at s) → (r ≡ 0 → ⊥) → Found r
   unfolding brokenIn
   stop s r l w e h = first-stop seriesCount (λ i. brokenSeries (at i)) s r l w e h
 
-  -- a series that isn't open
+  -- at a series that isn't open: on, or W5
   module _ (s : ℕ) (p : Passed s) (l : s < seriesCount) (z : at s .first ≡ 0) (rows : Bool) (e : rows ≡ W5closed (unbound (at s))) where
     pub closed-on : (j : ℕ) → (eqb (at s .last) 0 && rows) ≡ true → j ≡ s + 1 → Passed j
     closed-on j t q = on s j 0 l (p .whole) (closed-passes (at s) z rows e t) refl q
@@ -106,7 +115,7 @@ module _ (fs ls ks vs ns rt rk rv gs : List ℕ) where
     pub closed-stops : (eqb (at s .last) 0 && rows) ≡ false → Found 5
     closed-stops t = stop s 5 l (p .whole) (closed-breaks (at s) z rows e t) (λ z. omega arith)
 
-  -- an open one: its bounds
+  -- at an open series: into its stations, or W1 of its bounds
   module _ (s : ℕ) (p : Passed s) (l : s < seriesCount) (o : at s .first ≡ 0 → ⊥) (b : Bool) (e : b ≡ W1bounds (at s .first) (at s .last)) where
     pub enter : (n : ℕ) → not b ≡ false → n ≡ 0 → Within s n
     enter n t z =
@@ -115,7 +124,7 @@ module _ (fs ls ks vs ns rt rk rv gs : List ℕ) where
     pub bounds-stop : not b ≡ true → Found 1
     bounds-stop t = stop s 1 l (p .whole) (bounds-break (at s) o (sym e ∙ not-true b t)) (λ z. omega arith)
 
-  -- its stations
+  -- at a station: to the next, or the rule that it breaks
   module _ (s n : ℕ) (w : Within s n) (l : n < stationCount) where
     stations-stop : (r : ℕ) → r ≡ brokenStation (at s) n → (r ≡ 0 → ⊥) → Found r
     stations-stop r e h =
@@ -140,7 +149,7 @@ module _ (fs ls ks vs ns rt rk rv gs : List ℕ) where
               stations = first-next _ n j 0 (w .stations) (station-passes (at s) n k q f pk pq z pf (not-false f t)) refl e;
             }
 
-  -- its tokens
+  -- after the stations: on to the next series, or W2
   module _ (s n : ℕ) (w : Within s n) (l : stationCount ≤ n) (t : Bool) (e : t ≡ tallyFine (tally (unbound (at s)) stationCount)) where
     decides : broken 2 t ≡ brokenSeries (at s)
     decides = tokens-decide (at s) (w .opened) (w .bounds) (sym (first-end stationCount _ n (w .most) l (w .stations))) t e

@@ -1,14 +1,15 @@
--- How the walk counts the tokens of W2 in one pass over the stations. A reader of W2 needs none of it: proofs/Tokens.antt shows that it is the same test.
+-- How the walk's functions count the tokens of W2 in one pass, and what else they say to each other.
+-- A reader of W2 needs none of it: `tally-same` of proofs/Tokens.antt shows that the count is W2's test.
 -- Assumes nothing.
 use Prim.Native.Nat.{ℕ, zero, suc, _+_, _≤_}
 use mathlib.Core.Bool.{Bool, true, cond, _&&_, _||_}
 use mathlib.Core.List.{List}
 use lib.ListN.{length}
 use lib.Dec.{eqb, leb, ltb}
+use mir.Val.{boolByte}
 use Rattle.words.specs.Numbers.{stationCount, seriesCount, placeCount, receivedCount, void, share, exclusive}
 use Rattle.words.specs.Tests.{_and_, firstBelow}
 use Rattle.copies.specs.declared.Kept.{Kept}
-use mir.Val.{boolByte}
 use Rattle.copies.specs.declared.walk.Tally.{Tally}
 use Rattle.copies.specs.FirstBroken.{brokenSeries}
 use Rattle.copies.specs.Tables.{Series, seriesIn, hasRelease, kind, value, relValue, received}
@@ -52,6 +53,6 @@ tally r zero = untold
 tally r (suc n) =
     counted (counted (tally r n) (kind r n) (value r n)) (transferKind (r .kept n) (λ m. received r m n)) (relValue r n)
 
--- one exclusive and no share, or one or more shares and no exclusive; and all say the same
+-- W2: one exclusive and no share, or one or more shares and no exclusive; and all with the same value
 abbrev pub tallyFine : Tally → Bool
 tallyFine t = (eqb (t .exclusives) 1 && eqb (t .shares) 0 || eqb (t .exclusives) 0 && leb 1 (t .shares)) && t .same

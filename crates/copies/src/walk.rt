@@ -1,15 +1,16 @@
 // The walk over series and stations that finds the first broken rule of the layer's tables: W1, W2, W3 or W5.
-// No test leaves a loop before its end: that is how they run fast. Only the walk itself does, by its label.
+// Only the walk itself is left early, by its label: a test that runs its loop to the end is faster.
+// A contract names the columns that its function reads; `[]` stands in the place of the others.
 ghost use mathlib.Core.Path.{_≡_};
 ghost use mathlib.Core.List.{[]};
 ghost use Prim.Native.Nat.{_+_, _*_, _<_, _≤_};
 ghost use lib.ListN.{length, getD};
 ghost use lib.Dec.{eqb};
 ghost use Rattle.words.specs.Numbers.{stationCount, seriesCount, placeCount, receivedCount};
-ghost use Rattle.words.specs.Tests.{_⇒_, allBelow, broken, _orElse_, firstBelow};
+ghost use Rattle.words.specs.Tests.{_⇒_, allBelow, broken, _orElse_};
 ghost use Rattle.copies.specs.Tables.{tables, seriesIn, keptIn, place, receivedPlace};
-ghost use Rattle.copies.specs.Whole.{inBounds, W1bounds, W1release, W1marks, W3atMost, W3only, W3station, W5release, W5closed};
-ghost use Rattle.copies.specs.FirstBroken.{brokenKept, brokenStation, brokenSeries, foundBy, checkCopies};
+ghost use Rattle.copies.specs.Whole.{inBounds, W1bounds, W1release, W1marks, W3atMost, W3station, W5release, W5closed};
+ghost use Rattle.copies.specs.FirstBroken.{brokenKept, checkCopies};
 ghost use Rattle.copies.specs.Tally.{Sized, brokenIn, counted, transferKind, tally, tallyFine};
 use crate::Kept;
 use words::EXCLUSIVE;
@@ -67,7 +68,7 @@ fn bounds_fine(first: Serial, last: Serial) -> bool
     (first <= last) & (last <= GREATEST_SERIAL)
 }
 
-// W1 and W5 of station n's Release; most stand nowhere, and those are tested least.
+// W1 and W5 of station n's Release: first where it doesn't stand, as most don't.
 fn release_rule(first: Serial, last: Serial, n: usize, kept: Kept) -> u32
     ensures { λ r. ⌜ r ≡ broken 1 (W1release first last n kept) orElse broken 5 (W5release kept) ⌝ }
 {
@@ -103,7 +104,7 @@ fn kept_rule(first: Serial, last: Serial, n: usize, kept: Kept) -> u32
     }
 }
 
-// W3: whether what station n has received is at most what each station has sent; both rows lie together.
+// W3: whether what station n has received is at most what each station has sent.
 fn at_most(sent: &[u32], received: &[u32], s: usize, n: usize) -> bool
     requires { ⌜ (placeCount ≤ length (now sent)) × (receivedCount ≤ length (now received)) × (s < seriesCount) × (n < stationCount) ⌝ }
     ensures { λ r. ⌜ r ≡ W3atMost (seriesIn [] [] [] [] (now (sent .entry)) [] [] [] (now (received .entry)) s) n ⌝ }
@@ -115,7 +116,7 @@ fn at_most(sent: &[u32], received: &[u32], s: usize, n: usize) -> bool
     all
 }
 
-// W3: whether only the receiver of station n's Release has that number.
+// W3: whether only the receiver of station n's Release has received that number.
 fn only_receiver(received: &[u32], s: usize, n: usize, to: u32, number: u32) -> bool
     requires { ⌜ (receivedCount ≤ length (now received)) × (s < seriesCount) × (n < stationCount) ⌝ }
     ensures { λ r. ⌜ r ≡ allBelow stationCount (λ m. eqb (getD (now (received .entry)) (receivedPlace s m n) 0) number ⇒ eqb to m) ⌝ }
@@ -127,7 +128,7 @@ fn only_receiver(received: &[u32], s: usize, n: usize, to: u32, number: u32) -> 
     all
 }
 
-// W3 of what station n has received, and of who has received its last number, where its Release stands.
+// W3 of what station n has received and, where its Release stands, of who has received that number.
 fn received_fine(
     sent: &[u32],
     relto: &[u32],
@@ -173,7 +174,7 @@ fn kept_at(
     }
 }
 
-// What has been counted of a series' tokens: exclusives, shares, the value of the last one (0 where there is none), and whether all have the same.
+// The tokens counted so far: how many of each kind, the value of the last (0: none yet), and whether all had the same value.
 pub struct Tally {
     pub exclusives: u32,
     pub shares: u32,
@@ -184,7 +185,7 @@ pub struct Tally {
 impl Tally {
     // One token more, where its kind isn't void.
     fn count(self, kind: u32, value: Serial) -> Tally
-        requires { ⌜ (self .exclusives < 100) × (self .shares < 100) ⌝ }
+        requires { ⌜ (self .exclusives < 2 * stationCount) × (self .shares < 2 * stationCount) ⌝ }
         ensures { λ r. ⌜ (r ≡ counted self kind value) × (r .exclusives ≤ self .exclusives + 1) × (r .shares ≤ self .shares + 1) ⌝ }
     {
         if kind == VOID {
@@ -198,7 +199,7 @@ impl Tally {
         }
     }
 
-    // W2: one exclusive and no share, or one or more shares and no exclusive; and all say the same.
+    // W2: one exclusive and no share, or one or more shares and no exclusive; and all with the same value.
     fn fine(self) -> bool
         ensures { λ r. ⌜ r ≡ tallyFine self ⌝ }
     {
@@ -227,7 +228,7 @@ fn transfer_kind(received: &[u32], s: usize, n: usize, kept: Kept) -> u32
     }
 }
 
-// W2: the tokens of a series, counted in one pass.
+// W2 of an open series' tokens, counted in one pass: at most a copy and a transfer each station.
 fn tokens_fine(
     kinds: &[u32],
     values: &[Serial],
@@ -256,7 +257,7 @@ fn tokens_fine(
     t.fine()
 }
 
-// W5 of a series that isn't open, its last number apart: its rows are zero.
+// W5 of a series that isn't open, but for its last number: its row of each column is zero.
 fn closed_fine(
     kinds: &[u32],
     values: &[Serial],
@@ -280,7 +281,7 @@ fn closed_fine(
         & zeros(received, row * STATIONS, STATIONS * STATIONS)
 }
 
-// The number of the first broken rule of the series, 0 where none is.
+// The number of the first rule that a series breaks.
 fn broken_rule(
     firsts: &[Serial],
     lasts: &[Serial],
@@ -333,7 +334,7 @@ fn broken_rule(
     broken
 }
 
-// What the walk finds in tables of any size: one too short, the first broken rule, or that they are whole.
+// What the walk finds in tables of any size. The stations' marks come last.
 pub fn first_broken(
     firsts: &[Serial],
     lasts: &[Serial],

@@ -3,7 +3,7 @@
 use borrow.Author.Needs.{needs}
 use Rattle.copies.proofs.walk.transfer_kind.Statement.{statement}
 use Rattle.copies.proofs.walk.transfer_kind.Tie as tie
-use Rattle.copies.proofs.Stations.{transfer-none, transfer-far, transfer-under-way, transfer-delivered}
+use Rattle.copies.proofs.Stations.{transfer-none, transfer-far, transfer-counts, transfer-delivered}
 
 returns : tie.Need-returns
 returns c = search transfer-none
@@ -33,7 +33,7 @@ shared-slice-read-if3 : tie.Need-shared-slice-read-if3
 shared-slice-read-if3 c = search needs
 
 returns-3 : tie.Need-returns-3
-returns-3 c = search transfer-under-way
+returns-3 c = search transfer-counts
 
 returns-4 : tie.Need-returns-4
 returns-4 c = search transfer-delivered
