@@ -175,11 +175,11 @@ fn kept_at(
 }
 
 // The tokens counted so far: how many of each kind, the value of the last (0: none yet), and whether all had the same value.
-pub struct Tally {
-    pub exclusives: u32,
-    pub shares: u32,
-    pub next: Serial,
-    pub same: bool,
+struct Tally {
+    exclusives: u32,
+    shares: u32,
+    next: Serial,
+    same: bool,
 }
 
 impl Tally {
