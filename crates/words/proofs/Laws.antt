@@ -12,21 +12,25 @@ use mathlib.Core.Bool.{Bool, true, false, _&&_, _||_, true≢false}
 use Rattle.words.specs.Tests.{_and_, _or_, allBelow, someBelow, leastBelow, sumBelow, oneIf, broken, _orElse_, firstBelow}
 
 -- ---- the connectives
+-- `and` in either order of its brackets
 pub and-assoc : (a b c : Bool) → ((a and b) and c) ≡ (a and (b and c))
 unfolding _and_
 and-assoc true b c = refl
 and-assoc false b c = refl
 
+-- `and` with what holds
 pub and-true : (a : Bool) → (a and true) ≡ a
 unfolding _and_
 and-true true = refl
 and-true false = refl
 
+-- an `and` that holds, in its parts
 pub both-true : (a b : Bool) → (a and b) ≡ true → (a ≡ true) × (b ≡ true)
 unfolding _and_
 both-true true b e = (refl, e)
 both-true false b e = absurd (true≢false (sym e))
 
+-- an `or` that fails, in its parts
 pub neither : (a b : Bool) → (a or b) ≡ false → (a ≡ false) × (b ≡ false)
 unfolding _or_
 neither true b e = absurd (true≢false e)
@@ -180,6 +184,7 @@ count-some zero f l = absurd (omega arith)
 count-some (suc n) f l = count-step (sumBelow n (λ i. oneIf (f i))) (someBelow n f) (f n) (count-some n f) l
 
 -- ---- all, of two tests and of rows
+-- four tests, the inner two swapped
 and-swap : (a b c d : Bool) → ((a and b) and (c and d)) ≡ ((a and c) and (b and d))
 unfolding _and_
 and-swap true true c d = refl

@@ -10,10 +10,7 @@ use Rattle.copies.proofs.Series.{Passed, Within, start, finish, closed-
 use Rattle.copies.specs.Whole.{W3station, W3atMost, W3only}
 use Rattle.copies.specs.Tally.{Sized}
 
--- `broken_rule` meets its contract: a law of proofs/Series.antt for each turn and each way out.
-
--- `broken_rule` meets its contract: a law of proofs/Series.antt for each turn and each way out.
-
+-- the sizes stand here too, near enough for a search to reach them
 abbrev Inv-loop : tie.InvT-loop
 Inv-loop firsts lasts kinds values sent relto relkind relvalue received broken₀ s bounds n₀ broken n = Within firsts lasts kinds values sent relto relkind relvalue received s n × (broken ≡ 0) × Sized kinds values sent relto relkind relvalue received
 

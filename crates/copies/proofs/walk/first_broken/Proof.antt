@@ -6,8 +6,6 @@ use Rattle.copies.proofs.walk.first_broken.Tie as tie
 use Rattle.copies.proofs.Answers.{long-marks, long-series, found-short, found-broken, found-marks, found-whole}
 use Rattle.copies.specs.Tables.{shortCopies}
 
--- `first_broken` meets its contract, a law for each way out.
-
 returns : tie.Need-returns
 unfolding shortCopies _or_
 returns c = search found-short
