@@ -4,3 +4,4 @@ pub mod FirstBroken
 pub mod Facts
 pub mod Steps
 pub mod Calls
+pub mod Tally

@@ -36,3 +36,7 @@ pub struct Kept {
     pub relkind: u32,
     pub relvalue: Serial,
 }
+
+mod walk;
+
+pub use walk::first_broken;

@@ -3,7 +3,7 @@ use Rattle.words.specs.Tests.{non, _and_, _or_, _⇒_, allBelow, someBelow, lea
 use Rattle.copies.specs.Tables.{shortCopies, tokens, next}
 use Rattle.copies.specs.Whole.{inBounds, W1bounds, W1copy, W1sent, W1release, W1received, W1station, W1series, W1marks, W2tokens, W2values, W2open, W2series, W3atMost, W3only, W3station, W3series, W5release, W5kept, W5received, W5closed, W5series}
 use Rattle.copies.specs.Steps.{opened, raised, released, sentOff, demoted, shared, dropped, promoted, arrived, deleted, marked, isSpent, isRepeat, matches, noGrant, noAck}
-use Rattle.copies.proofs.Walk.{walked}
+use Rattle.copies.proofs.Walked.{walked}
 use Rattle.jobs.specs.Job.{locksSeries, lockPlace, isFull, newPlace, begun, withLock, withDraw}
 use Rattle.jobs.specs.Slots.{shortJobs, free, closeFirst, closedAt, countAt}
 use Rattle.jobs.specs.Draws.{drawsOn, drawsOf, committed, shown}

@@ -9,7 +9,7 @@ use Rattle.words.specs.declared.Answer.the-variants.{Short, NotWhole}
 use Rattle.words.specs.Numbers.{seriesCount, outCount}
 use Rattle.words.specs.Tests.{non, _and_}
 use Rattle.copies.specs.Whole.{W1series, W2series, W3series, W5series, W1marks, W1copies, W2copies, W3copies, W5copies}
-use Rattle.copies.proofs.Walk.{walked, every-walked}
+use Rattle.copies.proofs.Walked.{walked, every-walked}
 use Rattle.jobs.specs.Whole.{W1jobs, W5jobs}
 use Rattle.rulebook.specs.declared.Event.{Event}
 use Rattle.rulebook.specs.Tables.{Plant}

@@ -2,8 +2,8 @@
 --     -none    no turn yet            -next    one turn more, to j
 --     -end     the loop is at n       -stop    the loop is left at i
 -- Assumes nothing.
-use Prim.Native.Nat.{ℕ, zero, suc, _+_, _≤_, _<_}
-use native.Mathlib.Nat.{not-suc-le-zero, le-of-suc-le-suc, eq-or-lt-of-le}
+use Prim.Native.Nat.{ℕ, zero, suc, _+_, _*_, _≤_, _<_}
+use native.Mathlib.Nat.{add-zero, add-suc, zero-mul, suc-mul, not-suc-le-zero, le-of-suc-le-suc, eq-or-lt-of-le}
 use native.Mathlib.Numerals.{add-one}
 use native.Mathlib.Omega.{arith}
 use mathlib.Core.Path.{_≡_, refl, sym, ap, _∙_}
@@ -12,20 +12,29 @@ use mathlib.Core.Bool.{Bool, true, false, _&&_, _||_, true≢false}
 use Rattle.words.specs.Tests.{_and_, _or_, allBelow, someBelow, leastBelow, sumBelow, oneIf, broken, _orElse_, firstBelow}
 
 -- ---- the connectives
-and-assoc : (a b c : Bool) → ((a and b) and c) ≡ (a and (b and c))
+-- `and` in either order of its brackets
+pub and-assoc : (a b c : Bool) → ((a and b) and c) ≡ (a and (b and c))
 unfolding _and_
 and-assoc true b c = refl
 and-assoc false b c = refl
 
-and-true : (a : Bool) → (a and true) ≡ (true and a)
+-- `and` with what holds
+pub and-true : (a : Bool) → (a and true) ≡ a
 unfolding _and_
 and-true true = refl
 and-true false = refl
 
-both-true : (a b : Bool) → (a and b) ≡ true → (a ≡ true) × (b ≡ true)
+-- an `and` that holds, in its parts
+pub both-true : (a b : Bool) → (a and b) ≡ true → (a ≡ true) × (b ≡ true)
 unfolding _and_
 both-true true b e = (refl, e)
 both-true false b e = absurd (true≢false (sym e))
+
+-- an `or` that fails, in its parts
+pub neither : (a b : Bool) → (a or b) ≡ false → (a ≡ false) × (b ≡ false)
+unfolding _or_
+neither true b e = absurd (true≢false e)
+neither false b e = (refl, e)
 
 -- ---- all
 pub all-none : (f : ℕ → Bool) → true ≡ allBelow 0 f
@@ -54,7 +63,7 @@ true-all (suc n) f h = rw (true-all n f (λ i l. h i (omega arith))) (h n (omega
 
 -- a test of each number below n + 1 is one of 0, and then of each later one
 pub all-front : (n : ℕ) (f : ℕ → Bool) → allBelow (suc n) f ≡ (f 0 and allBelow n (λ i. f (suc i)))
-unfolding allBelow
+unfolding allBelow _and_
 all-front zero f = sym (and-true (f 0))
 all-front (suc n) f = ap (λ (a : Bool). a and f (suc n)) (all-front n f) ∙ and-assoc (f 0) (allBelow n (λ i. f (suc i))) (f (suc n))
 
@@ -173,3 +182,30 @@ pub count-some : (n : ℕ) (f : ℕ → Bool) → 1 ≤ sumBelow n (λ i. oneIf 
 unfolding sumBelow someBelow
 count-some zero f l = absurd (omega arith)
 count-some (suc n) f l = count-step (sumBelow n (λ i. oneIf (f i))) (someBelow n f) (f n) (count-some n f) l
+
+-- ---- all, of two tests and of rows
+-- four tests, the inner two swapped
+and-swap : (a b c d : Bool) → ((a and b) and (c and d)) ≡ ((a and c) and (b and d))
+unfolding _and_
+and-swap true true c d = refl
+and-swap true false true d = refl
+and-swap true false false d = refl
+and-swap false b c d = refl
+
+-- a test of two things at each number is one of each thing
+pub all-and : (n : ℕ) (f g : ℕ → Bool) → allBelow n (λ i. f i and g i) ≡ (allBelow n f and allBelow n g)
+unfolding allBelow _and_
+all-and zero f g = refl
+all-and (suc n) f g = rw (all-and n f g) (and-swap (allBelow n f) (allBelow n g) (f n) (g n))
+
+-- of a + b numbers, the first a and then the other b
+all-split : (a b : ℕ) (f : ℕ → Bool) → allBelow (a + b) f ≡ (allBelow a f and allBelow b (λ i. f (a + i)))
+unfolding allBelow
+all-split a zero f = rw add-zero (sym (and-true (allBelow a f)))
+all-split a (suc b) f = rw (add-suc, all-split a b f) (and-assoc (allBelow a f) (allBelow b (λ i. f (a + i))) (f (a + b)))
+
+-- of n rows of w numbers, row by row
+pub all-rows : (n w : ℕ) (f : ℕ → Bool) → allBelow (n * w) f ≡ allBelow n (λ i. allBelow w (λ j. f (i * w + j)))
+unfolding allBelow
+all-rows zero w f = rw zero-mul
+all-rows (suc n) w f = rw (suc-mul, all-split (n * w) w f, all-rows n w f)

@@ -22,6 +22,10 @@ reflects-lt m n = (ltb-true m n, lt-ltb m n)
 pub reflects-eq : (m n : ℕ) → Reflects (eqb m n) (m ≡ n)
 reflects-eq m n = (eqb-true m n, eq-eqb m n)
 
+-- a test whose statement is that it holds
+pub reflects-self : (b : Bool) → Reflects b (b ≡ true)
+reflects-self b = (λ e. e, λ e. e)
+
 -- two tests of the same are equal
 pub reflects-same : {P : Type 0} (a b : Bool) → Reflects a P → Reflects b P → a ≡ b
 reflects-same true b p q = sym (q .1 (p .0 refl))

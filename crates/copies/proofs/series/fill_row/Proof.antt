@@ -6,7 +6,7 @@ use lib.ListN.{length, replicate}
 use lib.Seq.{sets}
 use borrow.Author.Needs.{needs}
 use Rattle.words.specs.Numbers.{stationCount}
-use Rattle.copies.proofs.Row.{row-none, row-next, row-end}
+use Rattle.copies.proofs.Filled.{row-none, row-next, row-end}
 use Rattle.copies.proofs.series.fill_row.Statement.{statement}
 use Rattle.copies.proofs.series.fill_row.Tie as tie
 
