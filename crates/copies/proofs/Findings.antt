@@ -14,6 +14,7 @@ use Rattle.copies.specs.Tables.{Copies, tables, shortCopies}
 use Rattle.copies.specs.Whole.{W1marks}
 use Rattle.copies.specs.FirstBroken.{firstBroken, foundBy, checkCopies}
 use Rattle.copies.specs.Tally.{Sized, brokenIn}
+use Rattle.copies.proofs.Long.{long}
 
 -- the first of two rules, where it is broken
 first-found : (r a b : ℕ) → r ≡ a → (r ≡ 0 → ⊥) → Broken r ≡ foundBy (a orElse b)
@@ -28,31 +29,22 @@ module _ (fs ls ks vs ns rt rk rv gs us : List ℕ) where
 
   -- what isn't short has its sizes: the marks
   pub long-marks : shortCopies all ≡ false → stationCount ≤ length us
-  unfolding shortCopies
-  long-marks e = ltb-false _ _ (neither _ _ e .1)
+  long-marks e = long e .up
 
   -- and all that keeps series
   pub long-series : shortCopies all ≡ false → (seriesCount ≤ length fs) × (seriesCount ≤ length ls) × Sized ks vs ns rt rk rv gs
-  unfolding shortCopies
   long-series e =
-      let to-gs = neither _ _ (neither _ _ e .0) in
-      let to-rv = neither _ _ (to-gs .0) in
-      let to-rk = neither _ _ (to-rv .0) in
-      let to-rt = neither _ _ (to-rk .0) in
-      let to-ns = neither _ _ (to-rt .0) in
-      let to-vs = neither _ _ (to-ns .0) in
-      let to-ks = neither _ _ (to-vs .0) in
-      let to-ls = neither _ _ (to-ks .0) in (
-        ltb-false _ _ (to-ls .0),
-        ltb-false _ _ (to-ls .1),
+      let l = long e in (
+        l .firsts,
+        l .lasts,
         record {
-          kinds = ltb-false _ _ (to-ks .1);
-          values = ltb-false _ _ (to-vs .1);
-          sent = ltb-false _ _ (to-ns .1);
-          relTo = ltb-false _ _ (to-rt .1);
-          relKind = ltb-false _ _ (to-rk .1);
-          relValue = ltb-false _ _ (to-rv .1);
-          received = ltb-false _ _ (to-gs .1);
+          kinds = l .kinds;
+          values = l .values;
+          sent = l .sent;
+          relTo = l .relTo;
+          relKind = l .relKind;
+          relValue = l .relValue;
+          received = l .received;
         },
       )
 
@@ -61,19 +53,19 @@ module _ (fs ls ks vs ns rt rk rv gs us : List ℕ) where
   unfolding checkCopies
   found-short e = rw e
 
-  module _ (long : shortCopies all ≡ false) (r : ℕ) (p : r ≡ brokenIn fs ls ks vs ns rt rk rv gs) where
+  module _ (sized : shortCopies all ≡ false) (r : ℕ) (p : r ≡ brokenIn fs ls ks vs ns rt rk rv gs) where
     -- a rule that a series breaks
     pub found-broken : (r ≡ 0 → ⊥) → Broken r ≡ checkCopies all
     unfolding checkCopies firstBroken brokenIn
-    found-broken h = rw long (first-found r _ _ p h)
+    found-broken h = rw sized (first-found r _ _ p h)
 
     module _ (z : r ≡ 0) (m : Bool) (q : m ≡ W1marks us) where
       -- W1 of the marks
       pub found-marks : m ≡ false → Broken 1 ≡ checkCopies all
       unfolding checkCopies firstBroken brokenIn foundBy broken _orElse_
-      found-marks e = rw (long, ← p, z, ← q, e)
+      found-marks e = rw (sized, ← p, z, ← q, e)
 
       -- none
       pub found-whole : m ≡ true → Whole ≡ checkCopies all
       unfolding checkCopies firstBroken brokenIn foundBy broken _orElse_
-      found-whole e = rw (long, ← p, z, ← q, e)
+      found-whole e = rw (sized, ← p, z, ← q, e)

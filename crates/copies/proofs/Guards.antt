@@ -7,6 +7,7 @@ use mathlib.Core.Bool.{Bool, true, false, not, _||_}
 use borrow.Author.Tests.{ne-eqb, eq-eqb, le-leb, lt-leb, le-ltb, lt-ltb, ltb-false, leb-false}
 use lib.Dec.{ltb, leb}
 use Rattle.words.specs.declared.Answer.{Answer}
+use Rattle.words.specs.Numbers.{stationCount, seriesCount, placeCount, receivedCount}
 use Rattle.words.specs.Tests.{non, _or_}
 use Rattle.copies.specs.Tables.{Copies}
 use Rattle.copies.specs.Calls.{Outcome, outcome, refuse, badCopy, badTransfer, badMessage, badOpening}
@@ -74,39 +75,39 @@ or-right false b e = e
 
 pub ruleset parts = (or-left, or-right, ltb-false, leb-false)
 
-pub good-copy : (s n : ℕ) {r : Bool} → r ≡ badCopy s n → r ≡ false → (s < 64) × (n < 8)
+pub good-copy : (s n : ℕ) {r : Bool} → r ≡ badCopy s n → r ≡ false → (s < seriesCount) × (n < stationCount)
 unfolding badCopy _or_
 good-copy s n e q = let h = sym e ∙ q in search parts
 
-pub good-transfer : (s from to : ℕ) {r : Bool} → r ≡ badTransfer s from to → r ≡ false → (s < 64) × (from < 8) × (to < 8)
+pub good-transfer : (s from to : ℕ) {r : Bool} → r ≡ badTransfer s from to → r ≡ false → (s < seriesCount) × (from < stationCount) × (to < stationCount)
 unfolding badTransfer _or_
 good-transfer s from to e q = let h = sym e ∙ q in search parts
 
-pub good-message : (s from to number : ℕ) {r : Bool} → r ≡ badMessage s from to number → r ≡ false → (s < 64) × (from < 8) × (to < 8)
+pub good-message : (s from to number : ℕ) {r : Bool} → r ≡ badMessage s from to number → r ≡ false → (s < seriesCount) × (from < stationCount) × (to < stationCount)
 unfolding badMessage _or_
 good-message s from to number e q = good-transfer s from to refl (or-left _ _ (or-left _ _ (sym e ∙ q)))
 
-pub long-sender : {f k v s t l w u : ℕ} → (ltb f 64 || ltb k 512 || ltb v 512 || ltb s 512 || ltb t 512 || ltb l 512 || ltb w 512 || ltb u 8) ≡ false → (64 ≤ f) × (512 ≤ k) × (512 ≤ v) × (512 ≤ s) × (512 ≤ t) × (512 ≤ l) × (512 ≤ w) × (8 ≤ u)
+pub long-sender : {f k v s t l w u : ℕ} → (ltb f seriesCount || ltb k placeCount || ltb v placeCount || ltb s placeCount || ltb t placeCount || ltb l placeCount || ltb w placeCount || ltb u stationCount) ≡ false → (seriesCount ≤ f) × (placeCount ≤ k) × (placeCount ≤ v) × (placeCount ≤ s) × (placeCount ≤ t) × (placeCount ≤ l) × (placeCount ≤ w) × (stationCount ≤ u)
 long-sender e = search parts depth 9
 
-pub long-receiver : {f k v s t l w g u : ℕ} → (ltb f 64 || ltb k 512 || ltb v 512 || ltb s 512 || ltb t 512 || ltb l 512 || ltb w 512 || ltb g 4096 || ltb u 8) ≡ false → (64 ≤ f) × (512 ≤ k) × (512 ≤ v) × (512 ≤ s) × (512 ≤ t) × (512 ≤ l) × (512 ≤ w) × (4096 ≤ g) × (8 ≤ u)
+pub long-receiver : {f k v s t l w g u : ℕ} → (ltb f seriesCount || ltb k placeCount || ltb v placeCount || ltb s placeCount || ltb t placeCount || ltb l placeCount || ltb w placeCount || ltb g receivedCount || ltb u stationCount) ≡ false → (seriesCount ≤ f) × (placeCount ≤ k) × (placeCount ≤ v) × (placeCount ≤ s) × (placeCount ≤ t) × (placeCount ≤ l) × (placeCount ≤ w) × (receivedCount ≤ g) × (stationCount ≤ u)
 long-receiver e = search parts depth 10
 
-pub long-promoter : {f k s t l g u : ℕ} → (ltb f 64 || ltb k 512 || ltb s 512 || ltb t 512 || ltb l 512 || ltb g 4096 || ltb u 8) ≡ false → (64 ≤ f) × (512 ≤ k) × (512 ≤ s) × (512 ≤ t) × (512 ≤ l) × (4096 ≤ g) × (8 ≤ u)
+pub long-promoter : {f k s t l g u : ℕ} → (ltb f seriesCount || ltb k placeCount || ltb s placeCount || ltb t placeCount || ltb l placeCount || ltb g receivedCount || ltb u stationCount) ≡ false → (seriesCount ≤ f) × (placeCount ≤ k) × (placeCount ≤ s) × (placeCount ≤ t) × (placeCount ≤ l) × (receivedCount ≤ g) × (stationCount ≤ u)
 long-promoter e = search parts
 
-pub long-holder : {f k u : ℕ} → (ltb f 64 || ltb k 512 || ltb u 8) ≡ false → (64 ≤ f) × (512 ≤ k) × (8 ≤ u)
+pub long-holder : {f k u : ℕ} → (ltb f seriesCount || ltb k placeCount || ltb u stationCount) ≡ false → (seriesCount ≤ f) × (placeCount ≤ k) × (stationCount ≤ u)
 long-holder e = search parts
 
-pub long-opener : {f l k v u : ℕ} → (ltb f 64 || ltb l 64 || ltb k 512 || ltb v 512 || ltb u 8) ≡ false → (64 ≤ f) × (64 ≤ l) × (512 ≤ k) × (512 ≤ v) × (8 ≤ u)
+pub long-opener : {f l k v u : ℕ} → (ltb f seriesCount || ltb l seriesCount || ltb k placeCount || ltb v placeCount || ltb u stationCount) ≡ false → (seriesCount ≤ f) × (seriesCount ≤ l) × (placeCount ≤ k) × (placeCount ≤ v) × (stationCount ≤ u)
 long-opener e = search parts
 
-pub long-raiser : {l v : ℕ} → (ltb l 64 || ltb v 512) ≡ false → (64 ≤ l) × (512 ≤ v)
+pub long-raiser : {l v : ℕ} → (ltb l seriesCount || ltb v placeCount) ≡ false → (seriesCount ≤ l) × (placeCount ≤ v)
 long-raiser e = search parts
 
-pub long-restart : {k u : ℕ} → (ltb k 512 || ltb u 8) ≡ false → (512 ≤ k) × (8 ≤ u)
+pub long-restart : {k u : ℕ} → (ltb k placeCount || ltb u stationCount) ≡ false → (placeCount ≤ k) × (stationCount ≤ u)
 long-restart e = search parts
 
-pub good-opening : (s first last n : ℕ) {r : Bool} → r ≡ badOpening s first last n → r ≡ false → (s < 64) × (n < 8)
+pub good-opening : (s first last n : ℕ) {r : Bool} → r ≡ badOpening s first last n → r ≡ false → (s < seriesCount) × (n < stationCount)
 unfolding badOpening _or_
 good-opening s first last n e q = good-copy s n refl (or-left _ _ (or-left _ _ (or-left _ _ (sym e ∙ q))))

@@ -3,11 +3,11 @@
 ghost use mathlib.Core.Path.{_≡_};
 ghost use Prim.Native.Nat.{_*_, _<_, _≤_};
 ghost use mathlib.Core.List.{[]};
-ghost use lib.Dec.{eqb, leb};
-ghost use lib.ListN.{length};
-ghost use Rattle.words.specs.Numbers.{seriesCount, stationCount, placeCount};
-ghost use Rattle.words.specs.Tests.{non, oneIf};
-ghost use Rattle.copies.specs.Tables.{place, seriesIn};
+ghost use lib.Dec.{eqb, ltb, leb};
+ghost use lib.ListN.{length, getD};
+ghost use Rattle.words.specs.Numbers.{stationCount, seriesCount, placeCount, receivedCount};
+ghost use Rattle.words.specs.Tests.{non, _and_, oneIf};
+ghost use Rattle.copies.specs.Tables.{place, receivedPlace, seriesIn};
 ghost use Rattle.copies.specs.Steps.{holderSet};
 ghost use Rattle.copies.specs.Calls.{read, badCopy, beyond, holders};
 use crate::checks::bad_copy;
@@ -97,8 +97,30 @@ fn bit_if_held(kind: u32, bit: u32) -> u32
     if kind == VOID { 0 } else { bit }
 }
 
+// Whether a transfer of station n is undelivered, by its Release's kind and receiver and by the sent count.
+pub fn is_undelivered(
+    received: &[u32],
+    series: usize,
+    n: usize,
+    kind: u32,
+    to: u32,
+    sent: u32,
+) -> bool
+    requires { ⌜ (receivedCount ≤ length (now received)) × (series < seriesCount) × (n < stationCount) ⌝ }
+    ensures { λ r. ⌜ r ≡ non (eqb kind 0) and (ltb to stationCount and ltb (getD (now (received .entry)) (receivedPlace series to n) 0) sent) ⌝ }
+{
+    let receiver = to as usize;
+    if kind == 0 {
+        return false;
+    }
+    if STATIONS <= receiver {
+        return false;
+    }
+    received[(series * STATIONS + receiver) * STATIONS + n] < sent
+}
+
 fn holders_in(kinds: &[u32], series: u32) -> u8
-    requires { ⌜ (512 ≤ length (now kinds)) × (series < 64) ⌝ }
+    requires { ⌜ (placeCount ≤ length (now kinds)) × (series < seriesCount) ⌝ }
     ensures { λ r. ⌜ r ≡ holderSet (seriesIn [] [] (now (kinds .entry)) [] [] [] [] [] [] series) ⌝ }
 {
     let mut set: u32 = 0;

@@ -5,7 +5,7 @@ ghost use Prim.Native.Nat.{ℕ, _-_, _+_, _<_, _≤_};
 ghost use lib.Dec.{ltb};
 ghost use lib.ListN.{length, replicate};
 ghost use lib.Seq.{sets};
-ghost use Rattle.words.specs.Numbers.{stationCount};
+ghost use Rattle.words.specs.Numbers.{stationCount, seriesCount, placeCount};
 ghost use Rattle.copies.specs.Tables.{tables};
 ghost use Rattle.copies.specs.Calls.{outcome, openSeries, openIn, raise, raiseIn};
 use crate::checks::bad_copy;
@@ -21,7 +21,7 @@ use words::VOID;
 
 // Writes a number at all eight stations of a series, from its row on.
 fn fill_row(column: &mut [u32], row: usize, number: u32)
-    requires { ⌜ row + 8 ≤ length (now column) ⌝ }
+    requires { ⌜ row + stationCount ≤ length (now column) ⌝ }
     ensures { λ r. ⌜ now (column .exit) ≡ sets (now (column .entry)) row (replicate stationCount number) ⌝ }
 {
     for n in 0..STATIONS {
@@ -40,7 +40,7 @@ fn open_in(
     last: Serial,
     station: u32,
 ) -> Answer
-    requires { ⌜ (64 ≤ length (now firsts)) × (64 ≤ length (now lasts)) × (512 ≤ length (now kinds)) × (512 ≤ length (now values)) × (8 ≤ length (now up)) × (series < 64) × (station < 8) ⌝ }
+    requires { ⌜ (seriesCount ≤ length (now firsts)) × (seriesCount ≤ length (now lasts)) × (placeCount ≤ length (now kinds)) × (placeCount ≤ length (now values)) × (stationCount ≤ length (now up)) × (series < seriesCount) × (station < stationCount) ⌝ }
     ensures { λ r. ⌜ ((ns rt rk rv gs : List ℕ) → outcome r (tables (now (firsts .exit)) (now (lasts .exit)) (now (kinds .exit)) (now (values .exit)) ns rt rk rv gs (now (up .entry)))
         ≡ openIn (tables (now (firsts .entry)) (now (lasts .entry)) (now (kinds .entry)) (now (values .entry)) ns rt rk rv gs (now (up .entry))) series first last station) ⌝ }
 {
@@ -115,7 +115,7 @@ fn raise_in(
     station: u32,
     count: Serial,
 ) -> Answer
-    requires { ⌜ (64 ≤ length (now lasts)) × (512 ≤ length (now values)) × (series < 64) × (station < 8) ⌝ }
+    requires { ⌜ (seriesCount ≤ length (now lasts)) × (placeCount ≤ length (now values)) × (series < seriesCount) × (station < stationCount) ⌝ }
     ensures { λ r. ⌜ ((fs ks ns rt rk rv gs us : List ℕ) → outcome r (tables fs (now (lasts .entry)) ks (now (values .exit)) ns rt rk rv gs us)
         ≡ raiseIn (tables fs (now (lasts .entry)) ks (now (values .entry)) ns rt rk rv gs us) series station count) ⌝ }
 {

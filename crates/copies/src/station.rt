@@ -4,7 +4,7 @@ ghost use mathlib.Core.List.{List};
 ghost use Prim.Native.Nat.{ℕ, _*_, _+_, _<_, _≤_};
 ghost use lib.Dec.{eqb};
 ghost use lib.ListN.{length, getD};
-ghost use Rattle.words.specs.Numbers.{seriesCount};
+ghost use Rattle.words.specs.Numbers.{stationCount, seriesCount, placeCount};
 ghost use Rattle.words.specs.Tests.{non, oneIf, sumBelow};
 ghost use Rattle.copies.specs.Tables.{tables, place};
 ghost use Rattle.copies.specs.Calls.{outcome, crash, restart, restartIn};
@@ -41,7 +41,7 @@ pub fn one_if_held(kind: u32) -> u32
 
 // How many copies of the station are not void.
 fn held_count(kinds: &[u32], station: u32) -> u32
-    requires { ⌜ (512 ≤ length (now kinds)) × (station < 8) ⌝ }
+    requires { ⌜ (placeCount ≤ length (now kinds)) × (station < stationCount) ⌝ }
     ensures { λ r. ⌜ r ≡ sumBelow seriesCount (λ s. oneIf (non (eqb (getD (now (kinds .entry)) (place s station) 0) 0))) ⌝ }
 {
     let mut count = 0;
@@ -52,7 +52,7 @@ fn held_count(kinds: &[u32], station: u32) -> u32
 }
 
 fn restart_in(kinds: &[u32], up: &mut [u32], station: u32) -> Answer
-    requires { ⌜ (512 ≤ length (now kinds)) × (8 ≤ length (now up)) × (station < 8) ⌝ }
+    requires { ⌜ (placeCount ≤ length (now kinds)) × (stationCount ≤ length (now up)) × (station < stationCount) ⌝ }
     ensures { λ r. ⌜ ((fs ls vs ns rt rk rv gs : List ℕ) → outcome r (tables fs ls (now (kinds .entry)) vs ns rt rk rv gs (now (up .exit)))
         ≡ restartIn (tables fs ls (now (kinds .entry)) vs ns rt rk rv gs (now (up .entry))) station) ⌝ }
 {

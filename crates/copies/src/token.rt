@@ -3,10 +3,12 @@ ghost use mathlib.Core.Path.{_≡_};
 ghost use mathlib.Core.List.{List, []};
 ghost use Prim.Native.Nat.{ℕ, _<_, _≤_};
 ghost use lib.ListN.{length};
-ghost use Rattle.copies.specs.Tables.{tables, seriesAt, seriesIn, undelivered};
+ghost use Rattle.words.specs.Numbers.{stationCount, seriesCount, placeCount, receivedCount};
+ghost use Rattle.copies.specs.Tables.{tables, seriesIn};
 ghost use Rattle.copies.specs.Steps.{otherShare, underWay};
 ghost use Rattle.copies.specs.Calls.{outcome, demote, demoteIn, drop, dropIn, promote, promoteIn};
 use crate::checks::bad_copy;
+use crate::read::is_undelivered;
 use words::Answer;
 use words::EXCLUSIVE;
 use words::PLACES;
@@ -25,7 +27,7 @@ fn demote_in(
     series: u32,
     station: u32,
 ) -> Answer
-    requires { ⌜ (64 ≤ length (now firsts)) × (512 ≤ length (now kinds)) × (8 ≤ length (now up)) × (series < 64) × (station < 8) ⌝ }
+    requires { ⌜ (seriesCount ≤ length (now firsts)) × (placeCount ≤ length (now kinds)) × (stationCount ≤ length (now up)) × (series < seriesCount) × (station < stationCount) ⌝ }
     ensures { λ r. ⌜ ((ls vs ns rt rk rv gs : List ℕ) → outcome r (tables (now (firsts .entry)) ls (now (kinds .exit)) vs ns rt rk rv gs (now (up .entry)))
         ≡ demoteIn (tables (now (firsts .entry)) ls (now (kinds .entry)) vs ns rt rk rv gs (now (up .entry))) free series station) ⌝ }
 {
@@ -69,7 +71,7 @@ pub fn demote(
 
 // Whether another station holds a share copy.
 fn other_share(kinds: &[u32], series: u32, station: u32) -> bool
-    requires { ⌜ (512 ≤ length (now kinds)) × (series < 64) ⌝ }
+    requires { ⌜ (placeCount ≤ length (now kinds)) × (series < seriesCount) ⌝ }
     ensures { λ r. ⌜ r ≡ otherShare (seriesIn [] [] (now (kinds .entry)) [] [] [] [] [] [] series) station ⌝ }
 {
     let mut some = false;
@@ -87,7 +89,7 @@ fn drop_in(
     series: u32,
     station: u32,
 ) -> Answer
-    requires { ⌜ (64 ≤ length (now firsts)) × (512 ≤ length (now kinds)) × (8 ≤ length (now up)) × (series < 64) × (station < 8) ⌝ }
+    requires { ⌜ (seriesCount ≤ length (now firsts)) × (placeCount ≤ length (now kinds)) × (stationCount ≤ length (now up)) × (series < seriesCount) × (station < stationCount) ⌝ }
     ensures { λ r. ⌜ ((ls vs ns rt rk rv gs : List ℕ) → outcome r (tables (now (firsts .entry)) ls (now (kinds .exit)) vs ns rt rk rv gs (now (up .entry)))
         ≡ dropIn (tables (now (firsts .entry)) ls (now (kinds .entry)) vs ns rt rk rv gs (now (up .entry))) free series station) ⌝ }
 {
@@ -132,37 +134,23 @@ pub fn drop(
     drop_in(firsts, kinds, up, free, series, station)
 }
 
-// Whether station n's transfer is undelivered.
-fn is_undelivered(
-    sent: &[u32],
-    relto: &[u32],
-    relkind: &[u32],
-    received: &[u32],
-    series: u32,
-    n: usize,
-) -> bool
-    requires { ⌜ (512 ≤ length (now sent)) × (512 ≤ length (now relto)) × (512 ≤ length (now relkind)) × (4096 ≤ length (now received)) × (series < 64) × (n < 8) ⌝ }
-    ensures { λ r. ⌜ r ≡ undelivered (seriesIn [] [] [] [] (now (sent .entry)) (now (relto .entry)) (now (relkind .entry)) [] (now (received .entry)) series) n ⌝ }
-{
-    let at = series as usize * STATIONS + n;
-    let to = relto[at] as usize;
-    if relkind[at] == 0 {
-        return false;
-    }
-    if STATIONS <= to {
-        return false;
-    }
-    received[(series as usize * STATIONS + to) * STATIONS + n] < sent[at]
-}
-
 // Whether a transfer of the series is undelivered.
 fn under_way(sent: &[u32], relto: &[u32], relkind: &[u32], received: &[u32], series: u32) -> bool
-    requires { ⌜ (512 ≤ length (now sent)) × (512 ≤ length (now relto)) × (512 ≤ length (now relkind)) × (4096 ≤ length (now received)) × (series < 64) ⌝ }
+    requires { ⌜ (placeCount ≤ length (now sent)) × (placeCount ≤ length (now relto)) × (placeCount ≤ length (now relkind)) × (receivedCount ≤ length (now received)) × (series < seriesCount) ⌝ }
     ensures { λ r. ⌜ r ≡ underWay (seriesIn [] [] [] [] (now (sent .entry)) (now (relto .entry)) (now (relkind .entry)) [] (now (received .entry)) series) ⌝ }
 {
     let mut some = false;
     for n in 0..STATIONS {
-        some = some | is_undelivered(sent, relto, relkind, received, series, n);
+        let at = series as usize * STATIONS + n;
+        some = some
+            | is_undelivered(
+                received,
+                series as usize,
+                n,
+                relkind[at],
+                relto[at],
+                sent[at],
+            );
     }
     some
 }
@@ -179,7 +167,7 @@ fn promote_in(
     series: u32,
     station: u32,
 ) -> Answer
-    requires { ⌜ (64 ≤ length (now firsts)) × (512 ≤ length (now kinds)) × (512 ≤ length (now sent)) × (512 ≤ length (now relto)) × (512 ≤ length (now relkind)) × (4096 ≤ length (now received)) × (8 ≤ length (now up)) × (series < 64) × (station < 8) ⌝ }
+    requires { ⌜ (seriesCount ≤ length (now firsts)) × (placeCount ≤ length (now kinds)) × (placeCount ≤ length (now sent)) × (placeCount ≤ length (now relto)) × (placeCount ≤ length (now relkind)) × (receivedCount ≤ length (now received)) × (stationCount ≤ length (now up)) × (series < seriesCount) × (station < stationCount) ⌝ }
     ensures { λ r. ⌜ ((ls vs rv : List ℕ) → outcome r (tables (now (firsts .entry)) ls (now (kinds .exit)) vs (now (sent .entry)) (now (relto .entry)) (now (relkind .entry)) rv (now (received .entry)) (now (up .entry)))
         ≡ promoteIn (tables (now (firsts .entry)) ls (now (kinds .entry)) vs (now (sent .entry)) (now (relto .entry)) (now (relkind .entry)) rv (now (received .entry)) (now (up .entry))) free series station) ⌝ }
 {

@@ -3,6 +3,7 @@ ghost use mathlib.Core.Path.{_≡_};
 ghost use mathlib.Core.List.{List};
 ghost use Prim.Native.Nat.{ℕ, _<_, _≤_};
 ghost use lib.ListN.{length};
+ghost use Rattle.words.specs.Numbers.{stationCount, seriesCount, placeCount, receivedCount};
 ghost use Rattle.copies.specs.Tables.{tables};
 ghost use Rattle.copies.specs.Calls.{outcome, send, sendIn, sendShare, shareIn, grant, grantIn, ack, ackIn};
 use crate::checks::bad_message;
@@ -32,7 +33,7 @@ fn send_in(
     from: u32,
     to: u32,
 ) -> Answer
-    requires { ⌜ (64 ≤ length (now firsts)) × (512 ≤ length (now kinds)) × (512 ≤ length (now values)) × (512 ≤ length (now sent)) × (512 ≤ length (now relto)) × (512 ≤ length (now relkind)) × (512 ≤ length (now relvalue)) × (8 ≤ length (now up)) × (series < 64) × (from < 8) × (to < 8) ⌝ }
+    requires { ⌜ (seriesCount ≤ length (now firsts)) × (placeCount ≤ length (now kinds)) × (placeCount ≤ length (now values)) × (placeCount ≤ length (now sent)) × (placeCount ≤ length (now relto)) × (placeCount ≤ length (now relkind)) × (placeCount ≤ length (now relvalue)) × (stationCount ≤ length (now up)) × (series < seriesCount) × (from < stationCount) × (to < stationCount) ⌝ }
     ensures { λ r. ⌜ ((ls gs : List ℕ) → outcome r (tables (now (firsts .entry)) ls (now (kinds .exit)) (now (values .entry)) (now (sent .exit)) (now (relto .exit)) (now (relkind .exit)) (now (relvalue .exit)) gs (now (up .entry)))
         ≡ sendIn (tables (now (firsts .entry)) ls (now (kinds .entry)) (now (values .entry)) (now (sent .entry)) (now (relto .entry)) (now (relkind .entry)) (now (relvalue .entry)) gs (now (up .entry))) free series from to) ⌝ }
 {
@@ -125,7 +126,7 @@ fn share_in(
     from: u32,
     to: u32,
 ) -> Answer
-    requires { ⌜ (64 ≤ length (now firsts)) × (512 ≤ length (now kinds)) × (512 ≤ length (now values)) × (512 ≤ length (now sent)) × (512 ≤ length (now relto)) × (512 ≤ length (now relkind)) × (512 ≤ length (now relvalue)) × (8 ≤ length (now up)) × (series < 64) × (from < 8) × (to < 8) ⌝ }
+    requires { ⌜ (seriesCount ≤ length (now firsts)) × (placeCount ≤ length (now kinds)) × (placeCount ≤ length (now values)) × (placeCount ≤ length (now sent)) × (placeCount ≤ length (now relto)) × (placeCount ≤ length (now relkind)) × (placeCount ≤ length (now relvalue)) × (stationCount ≤ length (now up)) × (series < seriesCount) × (from < stationCount) × (to < stationCount) ⌝ }
     ensures { λ r. ⌜ ((ls gs : List ℕ) → outcome r (tables (now (firsts .entry)) ls (now (kinds .entry)) (now (values .entry)) (now (sent .exit)) (now (relto .exit)) (now (relkind .exit)) (now (relvalue .exit)) gs (now (up .entry)))
         ≡ shareIn (tables (now (firsts .entry)) ls (now (kinds .entry)) (now (values .entry)) (now (sent .entry)) (now (relto .entry)) (now (relkind .entry)) (now (relvalue .entry)) gs (now (up .entry))) series from to) ⌝ }
 {
@@ -214,7 +215,7 @@ fn grant_in(
     to: u32,
     number: u32,
 ) -> Answer
-    requires { ⌜ (64 ≤ length (now firsts)) × (512 ≤ length (now kinds)) × (512 ≤ length (now values)) × (512 ≤ length (now sent)) × (512 ≤ length (now relto)) × (512 ≤ length (now relkind)) × (512 ≤ length (now relvalue)) × (4096 ≤ length (now received)) × (8 ≤ length (now up)) × (series < 64) × (from < 8) × (to < 8) ⌝ }
+    requires { ⌜ (seriesCount ≤ length (now firsts)) × (placeCount ≤ length (now kinds)) × (placeCount ≤ length (now values)) × (placeCount ≤ length (now sent)) × (placeCount ≤ length (now relto)) × (placeCount ≤ length (now relkind)) × (placeCount ≤ length (now relvalue)) × (receivedCount ≤ length (now received)) × (stationCount ≤ length (now up)) × (series < seriesCount) × (from < stationCount) × (to < stationCount) ⌝ }
     ensures { λ r. ⌜ ((ls : List ℕ) → outcome r (tables (now (firsts .entry)) ls (now (kinds .exit)) (now (values .exit)) (now (sent .entry)) (now (relto .entry)) (now (relkind .entry)) (now (relvalue .entry)) (now (received .exit)) (now (up .entry)))
         ≡ grantIn (tables (now (firsts .entry)) ls (now (kinds .entry)) (now (values .entry)) (now (sent .entry)) (now (relto .entry)) (now (relkind .entry)) (now (relvalue .entry)) (now (received .entry)) (now (up .entry))) series from to number) ⌝ }
 {
@@ -308,7 +309,7 @@ fn ack_in(
     to: u32,
     number: u32,
 ) -> Answer
-    requires { ⌜ (64 ≤ length (now firsts)) × (512 ≤ length (now sent)) × (512 ≤ length (now relto)) × (512 ≤ length (now relkind)) × (512 ≤ length (now relvalue)) × (4096 ≤ length (now received)) × (8 ≤ length (now up)) × (series < 64) × (from < 8) × (to < 8) ⌝ }
+    requires { ⌜ (seriesCount ≤ length (now firsts)) × (placeCount ≤ length (now sent)) × (placeCount ≤ length (now relto)) × (placeCount ≤ length (now relkind)) × (placeCount ≤ length (now relvalue)) × (receivedCount ≤ length (now received)) × (stationCount ≤ length (now up)) × (series < seriesCount) × (from < stationCount) × (to < stationCount) ⌝ }
     ensures { λ r. ⌜ ((ls ks vs : List ℕ) → outcome r (tables (now (firsts .entry)) ls ks vs (now (sent .entry)) (now (relto .exit)) (now (relkind .exit)) (now (relvalue .exit)) (now (received .entry)) (now (up .entry)))
         ≡ ackIn (tables (now (firsts .entry)) ls ks vs (now (sent .entry)) (now (relto .entry)) (now (relkind .entry)) (now (relvalue .entry)) (now (received .entry)) (now (up .entry))) series from to number) ⌝ }
 {

@@ -13,6 +13,7 @@ ghost use Rattle.copies.specs.Whole.{inBounds, W1bounds, W1release, W1ma
 ghost use Rattle.copies.specs.FirstBroken.{brokenKept, checkCopies};
 ghost use Rattle.copies.specs.Tally.{Sized, brokenIn, counted, transferKind, tally, tallyFine};
 use crate::Kept;
+use crate::read::is_undelivered;
 use words::EXCLUSIVE;
 use words::Found;
 use words::GREATEST_SENT;
@@ -214,14 +215,7 @@ fn transfer_kind(received: &[u32], s: usize, n: usize, kept: Kept) -> u32
     requires { ⌜ (receivedCount ≤ length (now received)) × (s < seriesCount) × (n < stationCount) ⌝ }
     ensures { λ r. ⌜ r ≡ transferKind kept (λ m. getD (now (received .entry)) (receivedPlace s m n) 0) ⌝ }
 {
-    if kept.relkind == 0 {
-        return VOID;
-    }
-    let to = kept.relto as usize;
-    if STATIONS <= to {
-        return VOID;
-    }
-    if received[(s * STATIONS + to) * STATIONS + n] < kept.sent {
+    if is_undelivered(received, s, n, kept.relkind, kept.relto, kept.sent) {
         kept.relkind
     } else {
         VOID

@@ -22,6 +22,30 @@ abbrev μ-loop : tie.MeasureT-loop
 loop-holds : tie.Need-loop-holds Inv-loop μ-loop
 loop-holds c = (omega arith, some-none _)
 
+mul-at : tie.Need-mul-at Inv-loop μ-loop
+mul-at c = omega arith
+
+add-at : tie.Need-add-at Inv-loop μ-loop
+add-at c = omega arith
+
+mul-is-undelivered : tie.Need-mul-is-undelivered Inv-loop μ-loop
+mul-is-undelivered c = omega arith
+
+shared-slice-read-is-undelivered : tie.Need-shared-slice-read-is-undelivered Inv-loop μ-loop
+shared-slice-read-is-undelivered c = omega arith
+
+mul-is-undelivered-2 : tie.Need-mul-is-undelivered-2 Inv-loop μ-loop
+mul-is-undelivered-2 c = omega arith
+
+shared-slice-read-is-undelivered-2 : tie.Need-shared-slice-read-is-undelivered-2 Inv-loop μ-loop
+shared-slice-read-is-undelivered-2 c = omega arith
+
+mul-is-undelivered-3 : tie.Need-mul-is-undelivered-3 Inv-loop μ-loop
+mul-is-undelivered-3 c = omega arith
+
+shared-slice-read-is-undelivered-3 : tie.Need-shared-slice-read-is-undelivered-3 Inv-loop μ-loop
+shared-slice-read-is-undelivered-3 c = omega arith
+
 is-undelivered-requires : tie.Need-is-undelivered-requires Inv-loop μ-loop
 is-undelivered-requires c κs = search needs
 
@@ -44,6 +68,14 @@ under-way-spec =
     Inv-loop
     μ-loop
     loop-holds
+    mul-at
+    add-at
+    mul-is-undelivered
+    shared-slice-read-is-undelivered
+    mul-is-undelivered-2
+    shared-slice-read-is-undelivered-2
+    mul-is-undelivered-3
+    shared-slice-read-is-undelivered-3
     is-undelivered-requires
     add-n
     loop-less
