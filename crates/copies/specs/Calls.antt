@@ -139,10 +139,19 @@ raiseIn t s n count =
     (done 0 (raised t s n count)))
 
 -- ---- the calls, over the columns that each is lent
+-- a column of OPEN is short
+unfoldable pub shortOpener : Copies → Bool
+shortOpener t =
+    lacks seriesCount (t .firsts)
+    or lacks seriesCount (t .lasts)
+    or lacks placeCount (t .kinds)
+    or lacks placeCount (t .values)
+    or lacks stationCount (t .up)
+
 -- 1 OPEN
 unfoldable pub openSeries : Copies → ℕ → ℕ → ℕ → ℕ → Outcome
 openSeries t s first last n =
-    refuse t Short (lacks seriesCount (t .firsts) or lacks seriesCount (t .lasts) or lacks placeCount (t .kinds) or lacks placeCount (t .values) or lacks stationCount (t .up))
+    refuse t Short (shortOpener t)
     (refuse t BadEvent (badOpening s first last n) (openIn t s first last n))
 
 -- a column of SEND or SHARE is short
@@ -178,10 +187,21 @@ sendShare t s from to = refuse t Short (shortSender t) (refuse t BadEvent (badTr
 unfoldable pub drop : Copies → Bool → ℕ → ℕ → Outcome
 drop t free s n = refuse t Short (shortHolder t) (refuse t BadEvent (badCopy s n) (dropIn t free s n))
 
+-- a column of PROMOTE is short
+unfoldable pub shortPromoter : Copies → Bool
+shortPromoter t =
+    lacks seriesCount (t .firsts)
+    or lacks placeCount (t .kinds)
+    or lacks placeCount (t .sent)
+    or lacks placeCount (t .relTo)
+    or lacks placeCount (t .relKind)
+    or lacks receivedCount (t .received)
+    or lacks stationCount (t .up)
+
 -- 13 PROMOTE
 unfoldable pub promote : Copies → Bool → ℕ → ℕ → Outcome
 promote t free s n =
-    refuse t Short (lacks seriesCount (t .firsts) or lacks placeCount (t .kinds) or lacks placeCount (t .sent) or lacks placeCount (t .relTo) or lacks placeCount (t .relKind) or lacks receivedCount (t .received) or lacks stationCount (t .up))
+    refuse t Short (shortPromoter t)
     (refuse t BadEvent (badCopy s n) (promoteIn t free s n))
 
 -- a column of GRANT is short
@@ -203,10 +223,21 @@ grant t s from to number =
     refuse t Short (shortReceiver t)
     (refuse t BadEvent (badMessage s from to number) (grantIn t s from to number))
 
+-- a column of ACK is short
+unfoldable pub shortSource : Copies → Bool
+shortSource t =
+    lacks seriesCount (t .firsts)
+    or lacks placeCount (t .sent)
+    or lacks placeCount (t .relTo)
+    or lacks placeCount (t .relKind)
+    or lacks placeCount (t .relValue)
+    or lacks receivedCount (t .received)
+    or lacks stationCount (t .up)
+
 -- 15 ACK
 unfoldable pub ack : Copies → ℕ → ℕ → ℕ → ℕ → Outcome
 ack t s from to number =
-    refuse t Short (lacks seriesCount (t .firsts) or lacks placeCount (t .sent) or lacks placeCount (t .relTo) or lacks placeCount (t .relKind) or lacks placeCount (t .relValue) or lacks receivedCount (t .received) or lacks stationCount (t .up))
+    refuse t Short (shortSource t)
     (refuse t BadEvent (badMessage s from to number) (ackIn t s from to number))
 
 -- 16 CRASH, the station's mark alone: the jobs are the upper layer's

@@ -2,20 +2,20 @@
 use mathlib.Core.Path.{refl, sym, _∙_}
 use borrow.Author.Needs.{needs}
 use Rattle.words.specs.Tests.{_or_}
-use Rattle.copies.specs.Calls.{openSeries}
+use Rattle.copies.specs.Calls.{openSeries, shortOpener}
 use Rattle.copies.proofs.Guards.{stopped, passed, good-opening, long-opener}
 use Rattle.copies.proofs.series.open_series.Statement.{statement}
 use Rattle.copies.proofs.series.open_series.Tie as tie
 
 returns : tie.Need-returns
-unfolding openSeries _or_
+unfolding openSeries shortOpener _or_
 returns c ns rt rk rv gs = stopped _ _ _ _ _ (c .if1 .taken) refl
 
 bad-opening-requires : tie.Need-bad-opening-requires
 bad-opening-requires c κs = search needs
 
 returns-2 : tie.Need-returns-2
-unfolding openSeries _or_
+unfolding openSeries shortOpener _or_
 returns-2 c ns rt rk rv gs = passed _ _ _ _ _ (c .before .before .if1 .left) (stopped _ _ _ _ _ (sym (c .before .bad-opening .ensures) ∙ c .if2 .taken) refl)
 
 open-in-requires : tie.Need-open-in-requires
@@ -38,7 +38,7 @@ same-length-4 : tie.Need-same-length-4
 same-length-4 c = search needs
 
 returns-3 : tie.Need-returns-3
-unfolding openSeries _or_
+unfolding openSeries shortOpener _or_
 returns-3 c ns rt rk rv gs =
     let d = c .before .before .before .before .before .before .before .before in
     let e = d .before .before .before .before .before in

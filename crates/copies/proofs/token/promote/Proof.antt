@@ -2,20 +2,20 @@
 use mathlib.Core.Path.{refl, sym, _∙_}
 use borrow.Author.Needs.{needs}
 use Rattle.words.specs.Tests.{_or_}
-use Rattle.copies.specs.Calls.{promote}
+use Rattle.copies.specs.Calls.{promote, shortPromoter}
 use Rattle.copies.proofs.Guards.{stopped, passed, long-promoter, good-copy}
 use Rattle.copies.proofs.token.promote.Statement.{statement}
 use Rattle.copies.proofs.token.promote.Tie as tie
 
 returns : tie.Need-returns
-unfolding promote _or_
+unfolding promote shortPromoter _or_
 returns c ls vs rv = stopped _ _ _ _ _ (c .if1 .taken) refl
 
 bad-copy-requires : tie.Need-bad-copy-requires
 bad-copy-requires c κs = search needs
 
 returns-2 : tie.Need-returns-2
-unfolding promote _or_
+unfolding promote shortPromoter _or_
 returns-2 c ls vs rv = passed _ _ _ _ _ (c .before .before .if1 .left) (stopped _ _ _ _ _ (sym (c .before .bad-copy .ensures) ∙ c .if2 .taken) refl)
 
 promote-in-requires : tie.Need-promote-in-requires
@@ -29,7 +29,7 @@ same-length : tie.Need-same-length
 same-length c = search needs
 
 returns-3 : tie.Need-returns-3
-unfolding promote _or_
+unfolding promote shortPromoter _or_
 returns-3 c ls vs rv =
     let d = c .before .before in
     let e = d .before .before in

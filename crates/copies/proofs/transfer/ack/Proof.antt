@@ -2,20 +2,20 @@
 use mathlib.Core.Path.{refl, sym, _∙_}
 use borrow.Author.Needs.{needs}
 use Rattle.words.specs.Tests.{_or_}
-use Rattle.copies.specs.Calls.{ack}
+use Rattle.copies.specs.Calls.{ack, shortSource}
 use Rattle.copies.proofs.Guards.{stopped, passed, good-message, long-promoter}
 use Rattle.copies.proofs.transfer.ack.Statement.{statement}
 use Rattle.copies.proofs.transfer.ack.Tie as tie
 
 returns : tie.Need-returns
-unfolding ack _or_
+unfolding ack shortSource _or_
 returns c ls ks vs = stopped _ _ _ _ _ (c .if1 .taken) refl
 
 bad-message-requires : tie.Need-bad-message-requires
 bad-message-requires c κs = search needs
 
 returns-2 : tie.Need-returns-2
-unfolding ack _or_
+unfolding ack shortSource _or_
 returns-2 c ls ks vs = passed _ _ _ _ _ (c .before .before .if1 .left) (stopped _ _ _ _ _ (sym (c .before .bad-message .ensures) ∙ c .if2 .taken) refl)
 
 ack-in-requires : tie.Need-ack-in-requires
@@ -35,7 +35,7 @@ same-length-3 : tie.Need-same-length-3
 same-length-3 c = search needs
 
 returns-3 : tie.Need-returns-3
-unfolding ack _or_
+unfolding ack shortSource _or_
 returns-3 c ls ks vs =
     let d = c .before .before .before .before .before .before in
     let e = d .before .before .before .before in
