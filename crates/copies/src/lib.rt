@@ -1,5 +1,6 @@
 // Copies and transfers: the lower layer, which knows no jobs. What its tables and calls mean stands in specs/.
 // Every call checks lengths and ranges itself and takes any tables; `free` says that no job locks the copy.
+// The lists at the front of a call's promise are the columns that it is not lent: whatever they are, they stay.
 use words::Serial;
 
 mod checks;

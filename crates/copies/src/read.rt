@@ -119,6 +119,7 @@ pub fn is_undelivered(
     received[(series * STATIONS + receiver) * STATIONS + n] < sent
 }
 
+// The set, of a series that there is.
 fn holders_in(kinds: &[u32], series: u32) -> u8
     requires { ⌜ (placeCount ≤ length (now kinds)) × (series < seriesCount) ⌝ }
     ensures { λ r. ⌜ r ≡ holderSet (seriesIn [] [] (now (kinds .entry)) [] [] [] [] [] [] series) ⌝ }

@@ -29,6 +29,7 @@ fn fill_row(column: &mut [u32], row: usize, number: u32)
     }
 }
 
+// OPEN where refusals 1 and 3 are not given.
 fn open_in(
     firsts: &mut [Serial],
     lasts: &mut [Serial],
@@ -108,6 +109,7 @@ pub fn is_beyond(last: Serial, value: Serial, count: Serial) -> bool
     end - (value as u64) < count as u64
 }
 
+// A committed count where refusals 1 and 3 are not given.
 fn raise_in(
     lasts: &[Serial],
     values: &mut [Serial],

@@ -33,7 +33,7 @@ pub fn crash(up: &mut [u32], station: u32) -> Answer
 }
 
 // 1 for a copy that is held, 0 for a void one.
-pub fn one_if_held(kind: u32) -> u32
+fn one_if_held(kind: u32) -> u32
     ensures { λ r. ⌜ (r ≡ oneIf (non (eqb kind 0))) × (r ≤ 1) ⌝ }
 {
     if kind == VOID { 0 } else { 1 }
@@ -51,6 +51,7 @@ fn held_count(kinds: &[u32], station: u32) -> u32
     count
 }
 
+// RESTART where refusals 1 and 3 are not given.
 fn restart_in(kinds: &[u32], up: &mut [u32], station: u32) -> Answer
     requires { ⌜ (placeCount ≤ length (now kinds)) × (stationCount ≤ length (now up)) × (station < stationCount) ⌝ }
     ensures { λ r. ⌜ ((fs ls vs ns rt rk rv gs : List ℕ) → outcome r (tables fs ls (now (kinds .entry)) vs ns rt rk rv gs (now (up .exit)))

@@ -19,6 +19,7 @@ use words::STATIONS;
 use words::Serial;
 use words::VOID;
 
+// DEMOTE where refusals 1 and 3 are not given.
 fn demote_in(
     firsts: &[Serial],
     kinds: &mut [u32],
@@ -81,6 +82,7 @@ fn other_share(kinds: &[u32], series: u32, station: u32) -> bool
     some
 }
 
+// DROP where refusals 1 and 3 are not given.
 fn drop_in(
     firsts: &[Serial],
     kinds: &mut [u32],
@@ -155,6 +157,7 @@ fn under_way(sent: &[u32], relto: &[u32], relkind: &[u32], received: &[u32], ser
     some
 }
 
+// PROMOTE where refusals 1 and 3 are not given.
 fn promote_in(
     firsts: &[Serial],
     kinds: &mut [u32],

@@ -19,6 +19,7 @@ use words::STATIONS;
 use words::Serial;
 use words::VOID;
 
+// SEND where refusals 1 and 3 are not given.
 fn send_in(
     firsts: &[Serial],
     kinds: &mut [u32],
@@ -113,6 +114,7 @@ pub fn send(
     )
 }
 
+// SHARE where refusals 1 and 3 are not given.
 fn share_in(
     firsts: &[Serial],
     kinds: &[u32],
@@ -200,6 +202,7 @@ pub fn share(
     )
 }
 
+// GRANT where refusals 1 and 3 are not given.
 fn grant_in(
     firsts: &[Serial],
     kinds: &mut [u32],
@@ -296,6 +299,7 @@ pub fn grant(
     )
 }
 
+// ACK where refusals 1 and 3 are not given.
 fn ack_in(
     firsts: &[Serial],
     sent: &[u32],
