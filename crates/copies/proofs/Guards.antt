@@ -5,6 +5,7 @@ use native.Mathlib.Omega.{arith}
 use mathlib.Core.Path.{_≡_, refl, sym, _∙_}
 use mathlib.Core.Bool.{Bool, true, false, not, _||_}
 use borrow.Author.Tests.{ne-eqb, eq-eqb, le-leb, lt-leb, le-ltb, lt-ltb, ltb-false, leb-false}
+use mathlib.Core.List.{List, [], _∷_}
 use lib.Dec.{ltb, leb}
 use Rattle.words.specs.declared.Answer.{Answer}
 use Rattle.words.specs.Numbers.{stationCount, seriesCount, placeCount, receivedCount}
@@ -87,27 +88,26 @@ pub good-message : (s from to number : ℕ) {r : Bool} → r ≡ badMessage s fr
 unfolding badMessage _or_
 good-message s from to number e q = good-transfer s from to refl (or-left _ _ (or-left _ _ (sym e ∙ q)))
 
-pub long-sender : {f k v s t l w u : ℕ} → (ltb f seriesCount || ltb k placeCount || ltb v placeCount || ltb s placeCount || ltb t placeCount || ltb l placeCount || ltb w placeCount || ltb u stationCount) ≡ false → (seriesCount ≤ f) × (placeCount ≤ k) × (placeCount ≤ v) × (placeCount ≤ s) × (placeCount ≤ t) × (placeCount ≤ l) × (placeCount ≤ w) × (stationCount ≤ u)
-long-sender e = search parts depth 9
-
-pub long-receiver : {f k v s t l w g u : ℕ} → (ltb f seriesCount || ltb k placeCount || ltb v placeCount || ltb s placeCount || ltb t placeCount || ltb l placeCount || ltb w placeCount || ltb g receivedCount || ltb u stationCount) ≡ false → (seriesCount ≤ f) × (placeCount ≤ k) × (placeCount ≤ v) × (placeCount ≤ s) × (placeCount ≤ t) × (placeCount ≤ l) × (placeCount ≤ w) × (receivedCount ≤ g) × (stationCount ≤ u)
-long-receiver e = search parts depth 10
-
-pub long-promoter : {f k s t l g u : ℕ} → (ltb f seriesCount || ltb k placeCount || ltb s placeCount || ltb t placeCount || ltb l placeCount || ltb g receivedCount || ltb u stationCount) ≡ false → (seriesCount ≤ f) × (placeCount ≤ k) × (placeCount ≤ s) × (placeCount ≤ t) × (placeCount ≤ l) × (receivedCount ≤ g) × (stationCount ≤ u)
-long-promoter e = search parts
-
-pub long-holder : {f k u : ℕ} → (ltb f seriesCount || ltb k placeCount || ltb u stationCount) ≡ false → (seriesCount ≤ f) × (placeCount ≤ k) × (stationCount ≤ u)
-long-holder e = search parts
-
-pub long-opener : {f l k v u : ℕ} → (ltb f seriesCount || ltb l seriesCount || ltb k placeCount || ltb v placeCount || ltb u stationCount) ≡ false → (seriesCount ≤ f) × (seriesCount ≤ l) × (placeCount ≤ k) × (placeCount ≤ v) × (stationCount ≤ u)
-long-opener e = search parts
-
-pub long-raiser : {l v : ℕ} → (ltb l seriesCount || ltb v placeCount) ≡ false → (seriesCount ≤ l) × (placeCount ≤ v)
-long-raiser e = search parts
-
-pub long-restart : {k u : ℕ} → (ltb k placeCount || ltb u stationCount) ≡ false → (placeCount ≤ k) × (stationCount ≤ u)
-long-restart e = search parts
-
 pub good-opening : (s first last n : ℕ) {r : Bool} → r ≡ badOpening s first last n → r ≡ false → (s < seriesCount) × (n < stationCount)
 unfolding badOpening _or_
 good-opening s first last n e q = good-copy s n refl (or-left _ _ (or-left _ _ (or-left _ _ (sym e ∙ q))))
+
+-- ---- a flag that is false of a row of columns, each by its stated size and its length
+abbrev anyShort : Bool → List (ℕ × ℕ) → Bool
+anyShort b [] = b
+anyShort b (c ∷ cs) = anyShort (b || ltb (c .1) (c .0)) cs
+
+abbrev AllLong : ℕ × ℕ → List (ℕ × ℕ) → Type 0
+AllLong c [] = c .0 ≤ c .1
+AllLong c (d ∷ cs) = (c .0 ≤ c .1) × AllLong d cs
+
+first-of : (b : Bool) (cs : List (ℕ × ℕ)) → anyShort b cs ≡ false → b ≡ false
+first-of b [] e = e
+first-of b (c ∷ cs) e = or-left b (ltb (c .1) (c .0)) (first-of (b || ltb (c .1) (c .0)) cs e)
+
+-- none is short: each has its size
+pub all-long : (c : ℕ × ℕ) (cs : List (ℕ × ℕ)) → anyShort (ltb (c .1) (c .0)) cs ≡ false → AllLong c cs
+all-long c [] e = ltb-false (c .1) (c .0) e
+all-long c (d ∷ cs) e =
+    let first = or-left (ltb (c .1) (c .0)) (ltb (d .1) (d .0)) (first-of (ltb (c .1) (c .0) || ltb (d .1) (d .0)) cs e) in
+    (ltb-false (c .1) (c .0) first, all-long d cs (rw first at e))

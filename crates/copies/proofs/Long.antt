@@ -1,15 +1,16 @@
 -- Tables that aren't short (refusal 1), column by column.
 -- Assumes nothing.
 use Prim.Native.Nat.{ℕ, _≤_}
-use mathlib.Core.Path.{_≡_, refl}
-use mathlib.Core.Bool.{Bool, true, false, true≢false}
-use mathlib.Core.List.{List}
+use mathlib.Core.Path.{_≡_}
+use mathlib.Core.Bool.{Bool, false}
+use mathlib.Core.List.{List, [], _∷_}
 use lib.Dec.{ltb}
 use lib.ListN.{length}
-use borrow.Author.Tests.{ltb-false, le-ltb}
+use borrow.Author.Tests.{le-ltb}
 use Rattle.words.specs.Numbers.{stationCount, seriesCount, placeCount, receivedCount}
 use Rattle.words.specs.Tests.{_or_}
 use Rattle.copies.specs.Tables.{Copies, shortCopies}
+use Rattle.copies.proofs.Guards.{all-long}
 
 -- Each column has its stated size.
 pub record Long (t : Copies) : Type 0 where
@@ -24,41 +25,27 @@ pub record Long (t : Copies) : Type 0 where
   pub received : receivedCount ≤ length (t .received)
   pub up : stationCount ≤ length (t .up)
 
--- no column before is short and this one isn't
-enough : (short : Bool) (l : List ℕ) (size : ℕ) → (short or ltb (length l) size) ≡ false → (short ≡ false) × (size ≤ length l)
-unfolding _or_
-enough true l size e = absurd (true≢false e)
-enough false l size e = (refl, ltb-false (length l) size e)
-
--- and the other way round
+-- no column before is short, nor is this one
 none-short : (short : Bool) (l : List ℕ) (size : ℕ) → short ≡ false → size ≤ length l → (short or ltb (length l) size) ≡ false
 unfolding _or_
 none-short short l size e h = rw e (le-ltb (length l) size h)
 
 -- tables that aren't short have all sizes
 pub long : {t : Copies} → shortCopies t ≡ false → Long t
-unfolding shortCopies
+unfolding shortCopies _or_
 long {t} e =
-    let u = enough _ (t .up) stationCount e in
-    let g = enough _ (t .received) receivedCount (u .0) in
-    let rv = enough _ (t .relValue) placeCount (g .0) in
-    let rk = enough _ (t .relKind) placeCount (rv .0) in
-    let rt = enough _ (t .relTo) placeCount (rk .0) in
-    let n = enough _ (t .sent) placeCount (rt .0) in
-    let v = enough _ (t .values) placeCount (n .0) in
-    let k = enough _ (t .kinds) placeCount (v .0) in
-    let l = enough _ (t .lasts) seriesCount (k .0) in
+    let l = all-long (seriesCount, _) ((seriesCount, _) ∷ (placeCount, _) ∷ (placeCount, _) ∷ (placeCount, _) ∷ (placeCount, _) ∷ (placeCount, _) ∷ (placeCount, _) ∷ (receivedCount, _) ∷ (stationCount, _) ∷ []) e in
     record {
-      firsts = ltb-false (length (t .firsts)) seriesCount (l .0);
-      lasts = l .1;
-      kinds = k .1;
-      values = v .1;
-      sent = n .1;
-      relTo = rt .1;
-      relKind = rk .1;
-      relValue = rv .1;
-      received = g .1;
-      up = u .1;
+      firsts = l .0;
+      lasts = l .1 .0;
+      kinds = l .1 .1 .0;
+      values = l .1 .1 .1 .0;
+      sent = l .1 .1 .1 .1 .0;
+      relTo = l .1 .1 .1 .1 .1 .0;
+      relKind = l .1 .1 .1 .1 .1 .1 .0;
+      relValue = l .1 .1 .1 .1 .1 .1 .1 .0;
+      received = l .1 .1 .1 .1 .1 .1 .1 .1 .0;
+      up = l .1 .1 .1 .1 .1 .1 .1 .1 .1;
     }
 
 -- tables with all sizes aren't short

@@ -1,9 +1,11 @@
 -- `copies::series::open_series` meets its contract: its flags are refusals 1 and 3; what they leave is `open_in`'s. Assumes nothing.
+use mathlib.Core.List.{[], _∷_}
 use mathlib.Core.Path.{refl, sym, _∙_}
 use borrow.Author.Needs.{needs}
+use Rattle.words.specs.Numbers.{stationCount, seriesCount, placeCount}
 use Rattle.words.specs.Tests.{_or_}
 use Rattle.copies.specs.Calls.{openSeries, shortOpener}
-use Rattle.copies.proofs.Guards.{stopped, passed, good-opening, long-opener}
+use Rattle.copies.proofs.Guards.{stopped, passed, good-opening, all-long}
 use Rattle.copies.proofs.series.open_series.Statement.{statement}
 use Rattle.copies.proofs.series.open_series.Tie as tie
 
@@ -21,9 +23,9 @@ returns-2 c ns rt rk rv gs = passed _ _ _ _ _ (c .before .before .if1 .left) (st
 open-in-requires : tie.Need-open-in-requires
 open-in-requires c κs =
     let d = c .before .before .before .before in
-    let long = long-opener (d .before .before .if1 .left) in
+    let long = all-long (seriesCount, _) ((seriesCount, _) ∷ (placeCount, _) ∷ (placeCount, _) ∷ (stationCount, _) ∷ []) (d .before .before .if1 .left) in
     let fit = good-opening _ _ _ _ (d .before .bad-opening .ensures) (d .if2 .left) in
-    (long .0, long .1, long .2, long .3, long .4, fit .0, fit .1)
+    (long .0, long .1 .0, long .1 .1 .0, long .1 .1 .1 .0, long .1 .1 .1 .1, fit .0, fit .1)
 
 same-length : tie.Need-same-length
 same-length c = search needs

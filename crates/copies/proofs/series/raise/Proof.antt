@@ -1,9 +1,11 @@
 -- `copies::series::raise` meets its contract: its flags are refusals 1 and 3; what they leave is `raise_in`'s. Assumes nothing.
+use mathlib.Core.List.{[], _∷_}
 use mathlib.Core.Path.{refl, sym, _∙_}
 use borrow.Author.Needs.{needs}
+use Rattle.words.specs.Numbers.{seriesCount, placeCount}
 use Rattle.words.specs.Tests.{_or_}
 use Rattle.copies.specs.Calls.{raise}
-use Rattle.copies.proofs.Guards.{stopped, passed, good-copy, long-raiser}
+use Rattle.copies.proofs.Guards.{stopped, passed, good-copy, all-long}
 use Rattle.copies.proofs.series.raise.Statement.{statement}
 use Rattle.copies.proofs.series.raise.Tie as tie
 
@@ -21,7 +23,7 @@ returns-2 c fs ks ns rt rk rv gs us = passed _ _ _ _ _ (c .before .before .if1 .
 raise-in-requires : tie.Need-raise-in-requires
 raise-in-requires c κs =
     let d = c .before in
-    let long = long-raiser (d .before .before .if1 .left) in
+    let long = all-long (seriesCount, _) ((placeCount, _) ∷ []) (d .before .before .if1 .left) in
     let fit = good-copy _ _ (d .before .bad-copy .ensures) (d .if2 .left) in
     (long .0, long .1, fit .0, fit .1)
 

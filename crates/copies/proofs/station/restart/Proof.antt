@@ -1,9 +1,11 @@
 -- `copies::station::restart` meets its contract: its flags are refusals 1 and 3; what they leave is `restart_in`'s. Assumes nothing.
+use mathlib.Core.List.{[], _∷_}
 use borrow.Author.Tests.{lt-leb}
 use borrow.Author.Needs.{needs}
+use Rattle.words.specs.Numbers.{stationCount, placeCount}
 use Rattle.words.specs.Tests.{_or_}
 use Rattle.copies.specs.Calls.{restart}
-use Rattle.copies.proofs.Guards.{decided, passed, long-restart}
+use Rattle.copies.proofs.Guards.{decided, passed, all-long}
 use Rattle.copies.proofs.station.restart.Statement.{statement}
 use Rattle.copies.proofs.station.restart.Tie as tie
 
@@ -16,7 +18,7 @@ unfolding restart _or_
 returns-2 c fs ls vs ns rt rk rv gs = search decided
 
 restart-in-requires : tie.Need-restart-in-requires
-restart-in-requires c κs = let long = long-restart (c .before .before .if1 .left) in (long .0, long .1, search needs)
+restart-in-requires c κs = let long = all-long (placeCount, _) ((stationCount, _) ∷ []) (c .before .before .if1 .left) in (long .0, long .1, search needs)
 
 same-length : tie.Need-same-length
 same-length c = search needs

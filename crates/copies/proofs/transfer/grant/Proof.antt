@@ -1,9 +1,11 @@
 -- `copies::transfer::grant` meets its contract: its flags are refusals 1 and 3; what they leave is `grant_in`'s. Assumes nothing.
+use mathlib.Core.List.{[], _∷_}
 use mathlib.Core.Path.{refl, sym, _∙_}
 use borrow.Author.Needs.{needs}
+use Rattle.words.specs.Numbers.{stationCount, seriesCount, placeCount, receivedCount}
 use Rattle.words.specs.Tests.{_or_}
 use Rattle.copies.specs.Calls.{grant, shortReceiver}
-use Rattle.copies.proofs.Guards.{stopped, passed, good-message, long-receiver}
+use Rattle.copies.proofs.Guards.{stopped, passed, good-message, all-long}
 use Rattle.copies.proofs.transfer.grant.Statement.{statement}
 use Rattle.copies.proofs.transfer.grant.Tie as tie
 
@@ -21,9 +23,9 @@ returns-2 c ls = passed _ _ _ _ _ (c .before .before .if1 .left) (stopped _ _ _ 
 grant-in-requires : tie.Need-grant-in-requires
 grant-in-requires c κs =
     let d = c .before .before .before in
-    let long = long-receiver (d .before .before .if1 .left) in
+    let long = all-long (seriesCount, _) ((placeCount, _) ∷ (placeCount, _) ∷ (placeCount, _) ∷ (placeCount, _) ∷ (placeCount, _) ∷ (placeCount, _) ∷ (receivedCount, _) ∷ (stationCount, _) ∷ []) (d .before .before .if1 .left) in
     let fit = good-message _ _ _ _ (d .before .bad-message .ensures) (d .if2 .left) in
-    (long .0, long .1, long .2, long .3, long .4, long .5, long .6, long .7, long .8, fit .0, fit .1, fit .2)
+    (long .0, long .1 .0, long .1 .1 .0, long .1 .1 .1 .0, long .1 .1 .1 .1 .0, long .1 .1 .1 .1 .1 .0, long .1 .1 .1 .1 .1 .1 .0, long .1 .1 .1 .1 .1 .1 .1 .0, long .1 .1 .1 .1 .1 .1 .1 .1, fit .0, fit .1, fit .2)
 
 same-length : tie.Need-same-length
 same-length c = search needs
