@@ -5,11 +5,9 @@ use mathlib.Core.Path.{_≡_}
 use mathlib.Core.Bool.{Bool, true, false}
 use mathlib.Core.List.{List}
 use lib.ListN.{length}
-use borrow.Author.Tests.{ltb-false}
 use Rattle.words.specs.declared.Found.the-variants.{Short, Broken, Whole}
 use Rattle.words.specs.Numbers.{stationCount, seriesCount}
 use Rattle.words.specs.Tests.{broken, _orElse_}
-use Rattle.words.proofs.Laws.{neither}
 use Rattle.copies.specs.Tables.{Copies, tables, shortCopies}
 use Rattle.copies.specs.Whole.{W1marks}
 use Rattle.copies.specs.FirstBroken.{firstBroken, foundBy, checkCopies}

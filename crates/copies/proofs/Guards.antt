@@ -6,24 +6,27 @@ use mathlib.Core.Path.{_≡_, refl, sym, _∙_}
 use mathlib.Core.Bool.{Bool, true, false, not, _||_}
 use borrow.Author.Tests.{ne-eqb, eq-eqb, le-leb, lt-leb, le-ltb, lt-ltb, ltb-false, leb-false}
 use mathlib.Core.List.{List, [], _∷_}
-use lib.Dec.{ltb, leb}
+use lib.Dec.{ltb}
 use Rattle.words.specs.declared.Answer.{Answer}
-use Rattle.words.specs.Numbers.{stationCount, seriesCount, placeCount, receivedCount}
+use Rattle.words.specs.Numbers.{stationCount, seriesCount}
 use Rattle.words.specs.Tests.{non, _or_}
 use Rattle.copies.specs.Tables.{Copies}
 use Rattle.copies.specs.Calls.{Outcome, outcome, refuse, badCopy, badTransfer, badMessage, badOpening}
 
 -- ---- a refusal is given, or passed
 module _ (t : Copies) (a : Answer) (b : Bool) (next x : Outcome) where
+  -- its test holds: this refusal is the outcome
   pub stopped : b ≡ true → x ≡ outcome a t → x ≡ refuse t a b next
   unfolding refuse
   stopped e h = rw e h
 
+  -- its test fails: the outcome is what follows
   pub passed : b ≡ false → x ≡ next → x ≡ refuse t a b next
   unfolding refuse
   passed e h = rw e h
 
 -- ---- the opposite of a test
+-- decided by the test
 pub non-true : (b : Bool) → b ≡ true → non b ≡ false
 unfolding non
 non-true b e = rw e
@@ -58,6 +61,7 @@ or-call r q a b v p h e = rw (← p, ← h) e
 -- a comparison's fact decides its test
 pub ruleset compared = (eq-eqb, ne-eqb, le-leb, lt-leb, lt-ltb, le-ltb)
 
+-- all that decides a way out of a guard chain
 pub ruleset decided = (stopped, passed, non-true, non-false, non-not-true, non-not-false, eq-eqb, ne-eqb, le-leb, lt-leb, lt-ltb, le-ltb)
 
 -- ---- refusal 14
@@ -66,41 +70,51 @@ pub past-end : (last value count : ℕ) → last + 1 < value → ltb 0 count ≡
 past-end last value count l = let none : last + 1 - value ≡ 0 = omega arith in rw none
 
 -- ---- refusals 1 and 3 are flags of several tests
+-- of a flag that is false, the first test
 pub or-left : (a b : Bool) → (a || b) ≡ false → a ≡ false
 or-left true b e = e
 or-left false b e = refl
 
+-- and the last
 pub or-right : (a b : Bool) → (a || b) ≡ false → b ≡ false
 or-right true b e = cc
 or-right false b e = e
 
+-- each comparison of such a flag
 pub ruleset parts = (or-left, or-right, ltb-false, leb-false)
 
+-- a copy's numbers are in range
 pub good-copy : (s n : ℕ) {r : Bool} → r ≡ badCopy s n → r ≡ false → (s < seriesCount) × (n < stationCount)
 unfolding badCopy _or_
 good-copy s n e q = let h = sym e ∙ q in search parts
 
+-- a transfer's
 pub good-transfer : (s from to : ℕ) {r : Bool} → r ≡ badTransfer s from to → r ≡ false → (s < seriesCount) × (from < stationCount) × (to < stationCount)
 unfolding badTransfer _or_
 good-transfer s from to e q = let h = sym e ∙ q in search parts
 
+-- a message's
 pub good-message : (s from to number : ℕ) {r : Bool} → r ≡ badMessage s from to number → r ≡ false → (s < seriesCount) × (from < stationCount) × (to < stationCount)
 unfolding badMessage _or_
 good-message s from to number e q = good-transfer s from to refl (or-left _ _ (or-left _ _ (sym e ∙ q)))
 
+-- an opening's
 pub good-opening : (s first last n : ℕ) {r : Bool} → r ≡ badOpening s first last n → r ≡ false → (s < seriesCount) × (n < stationCount)
 unfolding badOpening _or_
 good-opening s first last n e q = good-copy s n refl (or-left _ _ (or-left _ _ (or-left _ _ (sym e ∙ q))))
 
 -- ---- a flag that is false of a row of columns, each by its stated size and its length
+-- the flag, from the first column's on
 abbrev anyShort : Bool → List (ℕ × ℕ) → Bool
 anyShort b [] = b
 anyShort b (c ∷ cs) = anyShort (b || ltb (c .1) (c .0)) cs
 
+-- each column's length is at least its size
 abbrev AllLong : ℕ × ℕ → List (ℕ × ℕ) → Type 0
 AllLong c [] = c .0 ≤ c .1
 AllLong c (d ∷ cs) = (c .0 ≤ c .1) × AllLong d cs
 
+-- no column after the first makes a flag false that was true
 first-of : (b : Bool) (cs : List (ℕ × ℕ)) → anyShort b cs ≡ false → b ≡ false
 first-of b [] e = e
 first-of b (c ∷ cs) e = or-left b (ltb (c .1) (c .0)) (first-of (b || ltb (c .1) (c .0)) cs e)

@@ -11,7 +11,7 @@ use Rattle.words.specs.declared.Answer.{Answer}
 use Rattle.words.specs.declared.Answer.the-variants.{Done, Short, BadEvent, Taken, None, Down, Up, Copy, Locked, Range, Wait, Spent, Others, NoMessage}
 use Rattle.words.specs.Numbers.{stationCount, seriesCount, placeCount, receivedCount, greatestSerial, greatestSent, share, exclusive}
 use Rattle.words.specs.Tests.{non, _and_, _or_}
-use Rattle.copies.specs.Tables.{Copies, Series, seriesIn, seriesAt, isOpen, isUp, kind, value, sentCount, stands}
+use Rattle.copies.specs.Tables.{Copies, seriesIn, seriesAt, isOpen, isUp, kind, value, sentCount, stands}
 use Rattle.copies.specs.Steps.{opened, raised, sentOff, demoted, shared, dropped, promoted, arrived, deleted, marked, heldCount, holderSet, isBeyond, otherShare, underWay, isSpent, isRepeat, matches, noGrant, noAck}
 
 -- What a call leaves: its answer and the layer's tables.

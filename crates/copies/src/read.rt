@@ -90,11 +90,11 @@ pub fn beyond(lasts: &[Serial], values: &[Serial], series: u32, station: u32, co
     )
 }
 
-// The bit of a station whose copy is held, 0 for a void one.
-fn bit_if_held(kind: u32, bit: u32) -> u32
-    ensures { λ r. ⌜ (r ≡ oneIf (non (eqb kind 0)) * bit) × (r ≤ bit) ⌝ }
+// The number for a copy that is held, 0 for a void one.
+pub fn if_held(kind: u32, number: u32) -> u32
+    ensures { λ r. ⌜ (r ≡ oneIf (non (eqb kind 0)) * number) × (r ≤ number) ⌝ }
 {
-    if kind == VOID { 0 } else { bit }
+    if kind == VOID { 0 } else { number }
 }
 
 // Whether a transfer of station n is undelivered, by its Release's kind and receiver and by the sent count.
@@ -127,7 +127,7 @@ fn holders_in(kinds: &[u32], series: u32) -> u8
     let mut set: u32 = 0;
     let mut bit: u32 = 1;
     for n in 0..STATIONS {
-        set = set + bit_if_held(kinds[series as usize * STATIONS + n], bit);
+        set = set + if_held(kinds[series as usize * STATIONS + n], bit);
         bit = bit * 2;
     }
     set as u8

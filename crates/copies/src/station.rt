@@ -8,11 +8,11 @@ ghost use Rattle.words.specs.Numbers.{stationCount, seriesCount, placeCount};
 ghost use Rattle.words.specs.Tests.{non, oneIf, sumBelow};
 ghost use Rattle.copies.specs.Tables.{tables, place};
 ghost use Rattle.copies.specs.Calls.{outcome, crash, restart, restartIn};
+use crate::read::if_held;
 use words::Answer;
 use words::PLACES;
 use words::SERIES;
 use words::STATIONS;
-use words::VOID;
 
 // 16 CRASH, the station's mark alone: closing its jobs is the upper layer's part.
 pub fn crash(up: &mut [u32], station: u32) -> Answer
@@ -32,13 +32,6 @@ pub fn crash(up: &mut [u32], station: u32) -> Answer
     Answer::Done(0)
 }
 
-// 1 for a copy that is held, 0 for a void one.
-fn one_if_held(kind: u32) -> u32
-    ensures { λ r. ⌜ (r ≡ oneIf (non (eqb kind 0))) × (r ≤ 1) ⌝ }
-{
-    if kind == VOID { 0 } else { 1 }
-}
-
 // How many copies of the station are not void.
 fn held_count(kinds: &[u32], station: u32) -> u32
     requires { ⌜ (placeCount ≤ length (now kinds)) × (station < stationCount) ⌝ }
@@ -46,7 +39,7 @@ fn held_count(kinds: &[u32], station: u32) -> u32
 {
     let mut count = 0;
     for s in 0..SERIES {
-        count = count + one_if_held(kinds[s * STATIONS + station as usize]);
+        count = count + if_held(kinds[s * STATIONS + station as usize], 1);
     }
     count
 }

@@ -30,12 +30,6 @@ unfolding _and_
 both-true true b e = (refl, e)
 both-true false b e = absurd (true≢false (sym e))
 
--- an `or` that fails, in its parts
-pub neither : (a b : Bool) → (a or b) ≡ false → (a ≡ false) × (b ≡ false)
-unfolding _or_
-neither true b e = absurd (true≢false e)
-neither false b e = (refl, e)
-
 -- ---- all
 pub all-none : (f : ℕ → Bool) → true ≡ allBelow 0 f
 unfolding allBelow

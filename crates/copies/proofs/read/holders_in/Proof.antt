@@ -26,20 +26,20 @@ abbrev μ-loop : tie.MeasureT-loop
 loop-holds : tie.Need-loop-holds Inv-loop μ-loop
 loop-holds c = (omega arith, refl, omega arith, sum-none _)
 
-mul-bit-if-held : tie.Need-mul-bit-if-held Inv-loop μ-loop
-mul-bit-if-held c = omega arith
+mul-if-held : tie.Need-mul-if-held Inv-loop μ-loop
+mul-if-held c = omega arith
 
-add-bit-if-held : tie.Need-add-bit-if-held Inv-loop μ-loop
-add-bit-if-held c = omega arith
+add-if-held : tie.Need-add-if-held Inv-loop μ-loop
+add-if-held c = omega arith
 
-mul-bit-if-held-2 : tie.Need-mul-bit-if-held-2 Inv-loop μ-loop
-mul-bit-if-held-2 c = omega arith
+mul-if-held-2 : tie.Need-mul-if-held-2 Inv-loop μ-loop
+mul-if-held-2 c = omega arith
 
-shared-slice-read-bit-if-held : tie.Need-shared-slice-read-bit-if-held Inv-loop μ-loop
-shared-slice-read-bit-if-held c = omega arith
+shared-slice-read-if-held : tie.Need-shared-slice-read-if-held Inv-loop μ-loop
+shared-slice-read-if-held c = omega arith
 
-bit-if-held-requires : tie.Need-bit-if-held-requires Inv-loop μ-loop
-bit-if-held-requires c κs = search needs
+if-held-requires : tie.Need-if-held-requires Inv-loop μ-loop
+if-held-requires c κs = search needs
 
 add-set : tie.Need-add-set Inv-loop μ-loop
 add-set c = omega (arith, bit-small _ _ (c .before .before .before .loop .inv .1) (c .before .before .loop-test .taken))
@@ -56,7 +56,7 @@ loop-less c = omega arith
 loop-again : tie.Need-loop-again Inv-loop μ-loop
 loop-again c =
     let l = c .before .before .before .loop .inv in
-    (omega arith, search bit-next, omega arith, set-next _ _ _ _ _ _ (l .1) (l .3) (c .bit-if-held .ensures .0) refl)
+    (omega arith, search bit-next, omega arith, set-next _ _ _ _ _ _ (l .1) (l .3) (c .if-held .ensures .0) refl)
 
 cast-result : tie.Need-cast-result Inv-loop μ-loop
 cast-result c = let l = c .before .loop .inv in omega (arith, bit-end _ _ (l .1) (l .0) (c .loop-test .left))
@@ -71,11 +71,11 @@ holders-in-spec =
     Inv-loop
     μ-loop
     loop-holds
-    mul-bit-if-held
-    add-bit-if-held
-    mul-bit-if-held-2
-    shared-slice-read-bit-if-held
-    bit-if-held-requires
+    mul-if-held
+    add-if-held
+    mul-if-held-2
+    shared-slice-read-if-held
+    if-held-requires
     add-set
     mul-bit
     add-n

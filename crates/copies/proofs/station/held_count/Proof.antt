@@ -1,7 +1,8 @@
 -- `copies::station::held_count` meets its contract: the count is the spec's sum so far, and at most one a series. Assumes nothing.
 use Prim.Native.Nat.{_≤_, _-_}
 use native.Mathlib.Omega.{arith}
-use mathlib.Core.Path.{_≡_}
+use native.Mathlib.Nat.{mul-one}
+use mathlib.Core.Path.{_≡_, refl, _∙_}
 use lib.Dec.{eqb}
 use lib.ListN.{getD}
 use borrow.Author.Needs.{needs}
@@ -24,20 +25,20 @@ abbrev μ-loop : tie.MeasureT-loop
 loop-holds : tie.Need-loop-holds Inv-loop μ-loop
 loop-holds c = (omega arith, omega arith, sum-none _)
 
-mul-one-if-held : tie.Need-mul-one-if-held Inv-loop μ-loop
-mul-one-if-held c = omega arith
+mul-if-held : tie.Need-mul-if-held Inv-loop μ-loop
+mul-if-held c = omega arith
 
-add-one-if-held : tie.Need-add-one-if-held Inv-loop μ-loop
-add-one-if-held c = omega arith
+add-if-held : tie.Need-add-if-held Inv-loop μ-loop
+add-if-held c = omega arith
 
-mul-one-if-held-2 : tie.Need-mul-one-if-held-2 Inv-loop μ-loop
-mul-one-if-held-2 c = omega arith
+mul-if-held-2 : tie.Need-mul-if-held-2 Inv-loop μ-loop
+mul-if-held-2 c = omega arith
 
-shared-slice-read-one-if-held : tie.Need-shared-slice-read-one-if-held Inv-loop μ-loop
-shared-slice-read-one-if-held c = omega arith
+shared-slice-read-if-held : tie.Need-shared-slice-read-if-held Inv-loop μ-loop
+shared-slice-read-if-held c = omega arith
 
-one-if-held-requires : tie.Need-one-if-held-requires Inv-loop μ-loop
-one-if-held-requires c κs = search needs
+if-held-requires : tie.Need-if-held-requires Inv-loop μ-loop
+if-held-requires c κs = search needs
 
 add-count : tie.Need-add-count Inv-loop μ-loop
 add-count c = omega arith
@@ -49,7 +50,9 @@ loop-less : tie.Need-loop-less Inv-loop μ-loop
 loop-less c = omega arith
 
 loop-again : tie.Need-loop-again Inv-loop μ-loop
-loop-again c = (omega arith, omega arith, search sum-next)
+loop-again c =
+    let l = c .before .before .before .loop .inv in
+    (omega arith, omega arith, sum-next _ _ _ _ _ (l .2) (c .if-held .ensures .0 ∙ mul-one _) refl)
 
 returns : tie.Need-returns Inv-loop μ-loop
 returns c = search sum-end
@@ -61,11 +64,11 @@ held-count-spec =
     Inv-loop
     μ-loop
     loop-holds
-    mul-one-if-held
-    add-one-if-held
-    mul-one-if-held-2
-    shared-slice-read-one-if-held
-    one-if-held-requires
+    mul-if-held
+    add-if-held
+    mul-if-held-2
+    shared-slice-read-if-held
+    if-held-requires
     add-count
     add-s
     loop-less
