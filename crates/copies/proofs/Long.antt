@@ -10,7 +10,7 @@ use borrow.Author.Tests.{le-ltb}
 use Rattle.words.specs.Numbers.{stationCount, seriesCount, placeCount, receivedCount}
 use Rattle.words.specs.Tests.{_or_}
 use Rattle.copies.specs.Tables.{Copies, shortCopies}
-use Rattle.copies.proofs.Guards.{all-long}
+use Rattle.words.proofs.Guards.{all-long}
 
 -- Each column has its stated size.
 pub record Long (t : Copies) : Type 0 where

@@ -6,11 +6,15 @@ use native.Mathlib.Omega.{arith}
 use mathlib.Core.Path.{_≡_, refl, sym, ap, _∙_}
 use mathlib.Core.Bool.{Bool, true, false}
 use mathlib.Core.List.{List}
-use borrow.Author.Tests.{lt-ltb, le-ltb}
+use lib.Dec.{eqb, leb}
+use borrow.Author.Tests.{lt-ltb, le-ltb, lt-leb}
 use lib.ListN.{getD, length}
-use Rattle.words.specs.Tests.{_or_, oneIf, sumBelow}
+use Rattle.words.specs.Numbers.{stationCount, seriesCount, placeCount}
+use Rattle.words.specs.Tests.{non, _or_, oneIf, sumBelow}
 use Rattle.words.proofs.Laws.{sum-next}
-use Rattle.copies.specs.Calls.{read}
+use Rattle.copies.specs.Tables.{Copies, seriesAt, place, isOpen, isUp, kind, value}
+use Rattle.copies.specs.Steps.{isBeyond}
+use Rattle.copies.specs.Calls.{read, badCopy, beyond}
 
 -- a test that holds, last
 or-yes : (a : Bool) → (a or true) ≡ true
@@ -33,6 +37,34 @@ module _ (size : ℕ) (column : List ℕ) (bad : Bool) (at : ℕ) where
   pub read-at : size ≤ length column → bad ≡ false → getD column at 0 ≡ read size column bad at
   unfolding read _or_
   read-at l e = rw (le-ltb _ _ l, e)
+
+-- ---- what the reading calls say of a series and a station that there are, where no column is short
+-- whether a series is open
+pub read-open : (t : Copies) (s : ℕ) (r : Bool) → seriesCount ≤ length (t .firsts) → s < seriesCount → r ≡ non (eqb (read seriesCount (t .firsts) (leb seriesCount s) s) 0) → r ≡ isOpen (seriesAt t s)
+read-open t s r l h e = rw (read-at seriesCount (t .firsts) (leb seriesCount s) s l (lt-leb _ _ h)) e
+
+-- whether a station is up
+pub read-up : (t : Copies) (n : ℕ) (r : Bool) → stationCount ≤ length (t .up) → n < stationCount → r ≡ eqb (read stationCount (t .up) (leb stationCount n) n) 1 → r ≡ isUp t n
+read-up t n r l h e = rw (read-at stationCount (t .up) (leb stationCount n) n l (lt-leb _ _ h)) e
+
+-- there is such a copy: no refusal 3
+pub copy-good : (s n : ℕ) → s < seriesCount → n < stationCount → badCopy s n ≡ false
+unfolding badCopy _or_
+copy-good s n h k = rw (lt-leb _ _ h, lt-leb _ _ k)
+
+module _ (t : Copies) (s n : ℕ) (series : s < seriesCount) (station : n < stationCount) where
+  -- its kind
+  pub read-kind : (r : ℕ) → placeCount ≤ length (t .kinds) → r ≡ read placeCount (t .kinds) (badCopy s n) (place s n) → r ≡ kind (seriesAt t s) n
+  read-kind r l e = rw (read-at placeCount (t .kinds) (badCopy s n) (place s n) l (copy-good s n series station)) e
+
+  -- its value
+  pub read-value : (r : ℕ) → placeCount ≤ length (t .values) → r ≡ read placeCount (t .values) (badCopy s n) (place s n) → r ≡ value (seriesAt t s) n
+  read-value r l e = rw (read-at placeCount (t .values) (badCopy s n) (place s n) l (copy-good s n series station)) e
+
+  -- whether a count goes beyond what is left of it
+  pub read-beyond : (r : Bool) (count : ℕ) → seriesCount ≤ length (t .lasts) → placeCount ≤ length (t .values) → r ≡ beyond (t .lasts) (t .values) s n count → r ≡ isBeyond (seriesAt t s) n count
+  unfolding beyond _or_
+  read-beyond r count l m e = rw (le-ltb _ _ l, le-ltb _ _ m, copy-good s n series station) at e
 
 -- ---- bits
 -- the next station's bit

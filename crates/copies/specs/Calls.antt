@@ -3,14 +3,14 @@
 -- Where an event needs to know that no job locks the copy, the caller says so: `free`.
 -- Assumes nothing.
 use Prim.Native.Nat.{ℕ, _+_}
-use mathlib.Core.Bool.{Bool, true, false, cond}
+use mathlib.Core.Bool.{Bool, cond}
 use mathlib.Core.List.{List, []}
 use lib.Dec.{eqb, ltb, leb}
 use lib.ListN.{length, getD}
 use Rattle.words.specs.declared.Answer.{Answer}
 use Rattle.words.specs.declared.Answer.the-variants.{Done, Short, BadEvent, Taken, None, Down, Up, Copy, Locked, Range, Wait, Spent, Others, NoMessage}
 use Rattle.words.specs.Numbers.{stationCount, seriesCount, placeCount, receivedCount, greatestSerial, greatestSent, share, exclusive}
-use Rattle.words.specs.Tests.{non, _and_, _or_}
+use Rattle.words.specs.Tests.{non, _or_, refuseIf}
 use Rattle.copies.specs.Tables.{Copies, seriesIn, seriesAt, isOpen, isUp, kind, value, sentCount, stands}
 use Rattle.copies.specs.Steps.{opened, raised, sentOff, demoted, shared, dropped, promoted, arrived, deleted, marked, heldCount, holderSet, isBeyond, otherShare, underWay, isSpent, isRepeat, matches, noGrant, noAck}
 
@@ -24,9 +24,8 @@ abbrev pub outcome : Answer → Copies → Outcome
 outcome a t = record { answer = a; copies = t }
 
 -- refused with this answer, and nothing changed, where the test holds; else what follows
-unfoldable pub refuse : Copies → Answer → Bool → Outcome → Outcome
-refuse t a true next = outcome a t
-refuse t a false next = next
+abbrev pub refuse : Copies → Answer → Bool → Outcome → Outcome
+refuse t a test next = refuseIf test (outcome a t) next
 
 -- accepted, with value v
 abbrev pub done : ℕ → Copies → Outcome

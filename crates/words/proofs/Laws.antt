@@ -8,8 +8,10 @@ use native.Mathlib.Numerals.{add-one}
 use native.Mathlib.Omega.{arith}
 use mathlib.Core.Path.{_≡_, refl, sym, ap, _∙_}
 use mathlib.Core.Logic.{⊎-elim}
-use mathlib.Core.Bool.{Bool, true, false, _&&_, _||_, true≢false}
-use Rattle.words.specs.Tests.{_and_, _or_, allBelow, someBelow, leastBelow, sumBelow, oneIf, broken, _orElse_, firstBelow}
+use mathlib.Core.Bool.{Bool, true, false, cond, not, _&&_, _||_, true≢false}
+use lib.Dec.{eqb, ltb}
+use borrow.Author.Tests.{eq-eqb, ne-eqb, lt-ltb, le-ltb}
+use Rattle.words.specs.Tests.{non, _and_, _or_, allBelow, someBelow, leastBelow, sumBelow, oneIf, broken, _orElse_, firstBelow}
 
 -- ---- the connectives
 -- `and` in either order of its brackets
@@ -164,6 +166,66 @@ unfolding someBelow
 least-true zero f e = absurd (true≢false (sym e))
 least-true (suc n) f e = least-step n f (someBelow n f) (least-true n f) refl e
 
+-- one number more at which the test fails
+pub some-miss : (f : ℕ → Bool) (i j : ℕ) (r : Bool) → someBelow i f ≡ false → r ≡ f i → r ≡ false → j ≡ i + 1 → someBelow j f ≡ false
+unfolding someBelow _or_
+some-miss f i j r p q h e = rw (e, add-one, p, ← q) h
+
+-- the loop is left at i: nothing below it holds, and it does
+pub least-stop : (n : ℕ) (f : ℕ → Bool) (i : ℕ) (r : Bool) → i < n → someBelow i f ≡ false → r ≡ f i → r ≡ true → i ≡ leastBelow n f
+unfolding leastBelow
+least-stop zero f i r l p q h = absurd (not-suc-le-zero l)
+least-stop (suc n) f i r l p q h =
+    ⊎-elim (λ e. here e)
+    (λ lt. rw (true-some n f i lt (sym q ∙ h)) (least-stop n f i r lt p q h))
+    (eq-or-lt-of-le (le-of-suc-le-suc l))
+  where
+    here : i ≡ n → i ≡ cond (someBelow n f) (leastBelow n f) (cond (f n) n (suc n))
+    here e = rw (← e, p, ← q, h)
+
+-- neither of two holds
+pub neither : (a b : Bool) → (a or b) ≡ false → (a ≡ false) × (b ≡ false)
+unfolding _or_
+neither false b e = (refl, e)
+neither true b e = absurd (true≢false e)
+
+-- where none holds, the least is n
+pub none-least : (n : ℕ) (f : ℕ → Bool) → someBelow n f ≡ false → leastBelow n f ≡ n
+unfolding someBelow leastBelow
+none-least zero f e = refl
+none-least (suc n) f e = let none = neither (someBelow n f) (f n) e in rw (none .0, none .1)
+
+-- the loop is at n: nothing holds
+pub least-end : (n : ℕ) (f : ℕ → Bool) (i : ℕ) → i ≤ n → n ≤ i → someBelow i f ≡ false → n ≡ leastBelow n f
+least-end n f i p q e = let same : n ≡ i = omega arith in sym (none-least n f (rw same e))
+
+-- the least is below n where some holds
+pub some-least : (n : ℕ) (f : ℕ → Bool) (m : ℕ) → m ≡ leastBelow n f → ltb m n ≡ someBelow n f
+some-least n f m e = by-case (someBelow n f) refl
+  where
+    by-case : (a : Bool) → someBelow n f ≡ a → ltb m n ≡ a
+    by-case true h = lt-ltb m n (rw e (least-true n f h .0))
+    by-case false h = le-ltb m n (let q : m ≡ n = e ∙ none-least n f h in omega arith)
+
+-- some fail where not all hold
+pub some-non : (n : ℕ) (f : ℕ → Bool) → someBelow n (λ i. non (f i)) ≡ non (allBelow n f)
+unfolding someBelow allBelow _or_ _and_ non
+some-non zero f = refl
+some-non (suc n) f = rw (some-non n f) (not-and (allBelow n f) (f n))
+  where
+    not-and : (a b : Bool) → (not a || not b) ≡ not (a && b)
+    not-and true b = refl
+    not-and false b = refl
+
+-- the least at which a test fails is n where all hold
+pub all-least : (n : ℕ) (f : ℕ → Bool) (m : ℕ) → m ≡ leastBelow n (λ i. non (f i)) → eqb m n ≡ allBelow n f
+unfolding non
+all-least n f m e = by-case (allBelow n f) refl
+  where
+    by-case : (a : Bool) → allBelow n f ≡ a → eqb m n ≡ a
+    by-case true h = eq-eqb m n (e ∙ none-least n (λ i. non (f i)) (some-non n f ∙ ap non h))
+    by-case false h = ne-eqb m n (λ q. let l : m < n = rw e (least-true n (λ i. non (f i)) (some-non n f ∙ ap non h) .0) in omega arith)
+
 -- a test more, that holds or doesn't
 count-step : (c : ℕ) (a b : Bool) → (1 ≤ c → a ≡ true) → 1 ≤ c + oneIf b → (a or b) ≡ true
 unfolding oneIf _or_
@@ -203,3 +265,38 @@ pub all-rows : (n w : ℕ) (f : ℕ → Bool) → allBelow (n * w) f ≡ allBelo
 unfolding allBelow
 all-rows zero w f = rw zero-mul
 all-rows (suc n) w f = rw (suc-mul, all-split (n * w) w f, all-rows n w f)
+
+-- ---- flags of the code, joined as the tests that they stand for
+-- the opposite of one
+pub flag-not : (p a : Bool) → p ≡ a → not p ≡ non a
+unfolding non
+flag-not p a e = rw e
+
+-- both of two
+pub flag-and : (p q a b : Bool) → p ≡ a → q ≡ b → (p && q) ≡ (a and b)
+unfolding _and_
+flag-and p q a b e h = rw (e, h)
+
+-- one of two
+pub flag-or : (p q a b : Bool) → p ≡ a → q ≡ b → (p || q) ≡ (a or b)
+unfolding _or_
+flag-or p q a b e h = rw (e, h)
+
+-- the opposite of the opposite
+pub non-non : (a : Bool) → a ≡ non (non a)
+unfolding non
+non-non true = refl
+non-non false = refl
+
+-- whatever way they are joined
+pub ruleset flags = (flag-not, flag-and, flag-or, non-non)
+
+-- that none passes is that each fails
+pub some-none-of : (n : ℕ) (f : ℕ → Bool) → non (someBelow n f) ≡ allBelow n (λ i. non (f i))
+unfolding non someBelow allBelow _or_ _and_
+some-none-of zero f = refl
+some-none-of (suc n) f = rw (← some-none-of n f) (neither (someBelow n f) (f n))
+  where
+    neither : (a b : Bool) → not (a || b) ≡ (not a && not b)
+    neither true b = refl
+    neither false b = refl

@@ -4,7 +4,8 @@ use native.Mathlib.Omega.{arith}
 use borrow.Author.Needs.{needs}
 use Rattle.words.specs.Tests.{_or_}
 use Rattle.copies.specs.Calls.{beyond}
-use Rattle.copies.proofs.Guards.{compared, good-copy}
+use Rattle.words.proofs.Guards.{compared}
+use Rattle.copies.proofs.Guards.{good-copy}
 use Rattle.copies.proofs.read.beyond.Statement.{statement}
 use Rattle.copies.proofs.read.beyond.Tie as tie
 

@@ -3,7 +3,7 @@ use native.Mathlib.Nat.{add-zero}
 use borrow.Author.Needs.{needs}
 use Rattle.copies.specs.Steps.{opened}
 use Rattle.copies.specs.Calls.{openIn}
-use Rattle.copies.proofs.Guards.{decided}
+use Rattle.words.proofs.Guards.{decided}
 use Rattle.copies.proofs.series.open_in.Statement.{statement}
 use Rattle.copies.proofs.series.open_in.Tie as tie
 

@@ -5,20 +5,21 @@ use borrow.Author.Needs.{needs}
 use Rattle.words.specs.Numbers.{stationCount, seriesCount, placeCount}
 use Rattle.words.specs.Tests.{_or_}
 use Rattle.copies.specs.Calls.{openSeries, shortOpener}
-use Rattle.copies.proofs.Guards.{stopped, passed, good-opening, all-long}
+use Rattle.words.proofs.Guards.{stopped, passed, all-long}
+use Rattle.copies.proofs.Guards.{good-opening}
 use Rattle.copies.proofs.series.open_series.Statement.{statement}
 use Rattle.copies.proofs.series.open_series.Tie as tie
 
 returns : tie.Need-returns
 unfolding openSeries shortOpener _or_
-returns c ns rt rk rv gs = stopped _ _ _ _ _ (c .if1 .taken) refl
+returns c ns rt rk rv gs = stopped _ _ _ _ (c .if1 .taken) refl
 
 bad-opening-requires : tie.Need-bad-opening-requires
 bad-opening-requires c κs = search needs
 
 returns-2 : tie.Need-returns-2
 unfolding openSeries shortOpener _or_
-returns-2 c ns rt rk rv gs = passed _ _ _ _ _ (c .before .before .if1 .left) (stopped _ _ _ _ _ (sym (c .before .bad-opening .ensures) ∙ c .if2 .taken) refl)
+returns-2 c ns rt rk rv gs = passed _ _ _ _ (c .before .before .if1 .left) (stopped _ _ _ _ (sym (c .before .bad-opening .ensures) ∙ c .if2 .taken) refl)
 
 open-in-requires : tie.Need-open-in-requires
 open-in-requires c κs =
@@ -44,8 +45,8 @@ unfolding openSeries shortOpener _or_
 returns-3 c ns rt rk rv gs =
     let d = c .before .before .before .before .before .before .before .before in
     let e = d .before .before .before .before .before in
-    passed _ _ _ _ _ (e .before .before .if1 .left)
-    (passed _ _ _ _ _ (sym (e .before .bad-opening .ensures) ∙ e .if2 .left) (d .open-in .ensures ns rt rk rv gs))
+    passed _ _ _ _ (e .before .before .if1 .left)
+    (passed _ _ _ _ (sym (e .before .bad-opening .ensures) ∙ e .if2 .left) (d .open-in .ensures ns rt rk rv gs))
 
 pub open-series-spec : {M : Type 1} → statement M
 open-series-spec =

@@ -6,7 +6,7 @@ use borrow.Author.Needs.{needs}
 use Rattle.words.specs.Numbers.{stationCount}
 use Rattle.copies.specs.Steps.{raised}
 use Rattle.copies.specs.Calls.{raiseIn}
-use Rattle.copies.proofs.Guards.{decided, stopped}
+use Rattle.words.proofs.Guards.{decided, stopped}
 use Rattle.copies.proofs.series.raise_in.Statement.{statement}
 use Rattle.copies.proofs.series.raise_in.Tie as tie
 
@@ -33,7 +33,7 @@ is-beyond-requires c κs = search needs
 
 returns : tie.Need-returns
 unfolding raiseIn raised
-returns c fs ks ns rt rk rv gs us = stopped _ _ _ _ _ (sym (c .before .is-beyond .ensures) ∙ c .if1 .taken) refl
+returns c fs ks ns rt rk rv gs us = stopped _ _ _ _ (sym (c .before .is-beyond .ensures) ∙ c .if1 .taken) refl
 
 cast-if2 : tie.Need-cast-if2
 cast-if2 c = search needs

@@ -2,7 +2,7 @@
 use borrow.Author.Needs.{needs}
 use Rattle.copies.specs.Steps.{marked}
 use Rattle.copies.specs.Calls.{crash}
-use Rattle.copies.proofs.Guards.{decided}
+use Rattle.words.proofs.Guards.{decided}
 use Rattle.copies.proofs.station.crash.Statement.{statement}
 use Rattle.copies.proofs.station.crash.Tie as tie
 

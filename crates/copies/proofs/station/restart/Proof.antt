@@ -5,7 +5,7 @@ use borrow.Author.Needs.{needs}
 use Rattle.words.specs.Numbers.{stationCount, placeCount}
 use Rattle.words.specs.Tests.{_or_}
 use Rattle.copies.specs.Calls.{restart}
-use Rattle.copies.proofs.Guards.{decided, passed, all-long}
+use Rattle.words.proofs.Guards.{decided, passed, all-long}
 use Rattle.copies.proofs.station.restart.Statement.{statement}
 use Rattle.copies.proofs.station.restart.Tie as tie
 
@@ -28,7 +28,7 @@ unfolding restart _or_
 returns-3 c fs ls vs ns rt rk rv gs =
     let d = c .before .before in
     let e = d .before .before in
-    passed _ _ _ _ _ (e .before .if1 .left) (passed _ _ _ _ _ (lt-leb _ _ (e .if2 .left)) (d .restart-in .ensures fs ls vs ns rt rk rv gs))
+    passed _ _ _ _ (e .before .if1 .left) (passed _ _ _ _ (lt-leb _ _ (e .if2 .left)) (d .restart-in .ensures fs ls vs ns rt rk rv gs))
 
 pub restart-spec : {M : Type 1} → statement M
 restart-spec = tie.close (tie.spec returns returns-2 restart-in-requires same-length returns-3)

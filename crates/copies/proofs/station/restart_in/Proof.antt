@@ -2,7 +2,7 @@
 use borrow.Author.Needs.{needs}
 use Rattle.copies.specs.Steps.{marked}
 use Rattle.copies.specs.Calls.{restartIn}
-use Rattle.copies.proofs.Guards.{decided}
+use Rattle.words.proofs.Guards.{decided}
 use Rattle.copies.proofs.station.restart_in.Statement.{statement}
 use Rattle.copies.proofs.station.restart_in.Tie as tie
 

@@ -2,7 +2,7 @@
 use borrow.Author.Needs.{needs}
 use Rattle.copies.specs.Steps.{demoted}
 use Rattle.copies.specs.Calls.{demoteIn}
-use Rattle.copies.proofs.Guards.{decided}
+use Rattle.words.proofs.Guards.{decided}
 use Rattle.copies.proofs.token.demote_in.Statement.{statement}
 use Rattle.copies.proofs.token.demote_in.Tie as tie
 

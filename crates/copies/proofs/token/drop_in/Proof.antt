@@ -2,7 +2,7 @@
 use borrow.Author.Needs.{needs}
 use Rattle.copies.specs.Steps.{dropped}
 use Rattle.copies.specs.Calls.{dropIn}
-use Rattle.copies.proofs.Guards.{decided, non-call-true, non-call-false}
+use Rattle.words.proofs.Guards.{decided, non-call-true, non-call-false}
 use Rattle.copies.proofs.token.drop_in.Statement.{statement}
 use Rattle.copies.proofs.token.drop_in.Tie as tie
 

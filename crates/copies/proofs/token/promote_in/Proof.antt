@@ -2,7 +2,7 @@
 use borrow.Author.Needs.{needs}
 use Rattle.copies.specs.Steps.{promoted}
 use Rattle.copies.specs.Calls.{promoteIn}
-use Rattle.copies.proofs.Guards.{decided, or-call}
+use Rattle.words.proofs.Guards.{decided, or-call}
 use Rattle.copies.proofs.token.promote_in.Statement.{statement}
 use Rattle.copies.proofs.token.promote_in.Tie as tie
 

@@ -2,7 +2,7 @@
 use borrow.Author.Needs.{needs}
 use Rattle.copies.specs.Steps.{deleted}
 use Rattle.copies.specs.Calls.{ackIn}
-use Rattle.copies.proofs.Guards.{decided}
+use Rattle.words.proofs.Guards.{decided}
 use Rattle.copies.proofs.Messages.{messages}
 use Rattle.copies.proofs.transfer.ack_in.Statement.{statement}
 use Rattle.copies.proofs.transfer.ack_in.Tie as tie

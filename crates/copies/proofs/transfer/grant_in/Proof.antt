@@ -2,7 +2,7 @@
 use borrow.Author.Needs.{needs}
 use Rattle.copies.specs.Steps.{arrived}
 use Rattle.copies.specs.Calls.{grantIn}
-use Rattle.copies.proofs.Guards.{decided}
+use Rattle.words.proofs.Guards.{decided}
 use Rattle.copies.proofs.Messages.{messages}
 use Rattle.copies.proofs.transfer.grant_in.Statement.{statement}
 use Rattle.copies.proofs.transfer.grant_in.Tie as tie
