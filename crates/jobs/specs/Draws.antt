@@ -1,14 +1,29 @@
 -- The draws of a job: what COMMIT adds to the copies and writes into the output.
 -- Assumes nothing.
-use Prim.Native.Nat.{ℕ}
-use mathlib.Core.Bool.{cond}
+use Prim.Native.Nat.{ℕ, _+_}
+use mathlib.Core.Bool.{Bool, cond}
 use mathlib.Core.List.{List, [], _∷_}
-use lib.Dec.{eqb}
-use Rattle.copies.specs.Tables.{Copies, seriesAt, value}
+use lib.Dec.{eqb, leb}
+use Rattle.words.specs.Numbers.{lockCount, placeCount, greatestSerial}
+use Rattle.words.specs.Tests.{non, _and_, _or_, allBelow}
+use Rattle.copies.specs.Tables.{Copies, seriesAt, place, value}
 use Rattle.copies.specs.Steps.{raised}
+use Rattle.copies.specs.Calls.{read, badCopy, beyond}
 use Rattle.jobs.specs.declared.Lock.{Lock}
 use Rattle.jobs.specs.declared.Job.{Job}
+use Rattle.jobs.specs.Job.{lockAt, isUsed}
+use Rattle.jobs.specs.Whole.{W4differs}
 
+-- ---- the copy that a job's lock is on
+-- its kind; 0 where the series or the station is none (W1 allows no such job)
+abbrev pub kindThere : Copies → ℕ → ℕ → ℕ
+kindThere t s n = read placeCount (t .kinds) (badCopy s n) (place s n)
+
+-- its value, likewise
+abbrev pub valueThere : (values : List ℕ) → ℕ → ℕ → ℕ
+valueThere values s n = read placeCount values (badCopy s n) (place s n)
+
+-- ---- the draws
 -- A draw: the serials of a series from the first, as many as the count, drawn at a station.
 pub record Draw : Type 0 where
   pub series : ℕ
@@ -36,3 +51,18 @@ committed t (d ∷ ds) = committed (raised t (d .series) (d .station) (d .count)
 unfoldable pub shown : List Draw → List ℕ
 shown [] = []
 shown (d ∷ ds) = d .series ∷ d .first ∷ d .count ∷ shown ds
+
+-- ---- draws that can be committed, as all can in whole tables (W1, W4)
+-- what lock place i has drawn is within the series and within what a value may be, on a used place, and no earlier place is on that series
+unfoldable pub drawFits : (lasts values : List ℕ) → Job → ℕ → Bool
+drawFits lasts values b i =
+    let l : Lock = lockAt b i in
+    eqb (l .drawn) 0
+    or non (beyond lasts values (l .series) (b .station) (l .drawn))
+    and leb (valueThere values (l .series) (b .station) + l .drawn) (greatestSerial + 1)
+    and isUsed b i
+    and W4differs b i
+
+-- all that a job has drawn
+unfoldable pub fits : (lasts values : List ℕ) → Job → Bool
+fits lasts values b = allBelow lockCount (drawFits lasts values b)

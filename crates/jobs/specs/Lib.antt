@@ -1,4 +1,8 @@
 pub mod Job
 pub mod Slots
-pub mod Draws
 pub mod Whole
+pub mod FirstBroken
+pub mod Facts
+pub mod Draws
+pub mod Store
+pub mod Calls

@@ -1,6 +1,27 @@
 // Job records and locks, above the copies. What they mean stands in specs/.
+use words::Answer;
+use words::JOBS;
 use words::LOCKS;
 use words::Serial;
+
+mod committing;
+mod drawing;
+mod locking;
+mod methods;
+mod slots;
+mod walk;
+
+pub use committing::commit;
+pub use drawing::draw;
+pub use drawing::read;
+pub use locking::abort;
+pub use locking::begin;
+pub use locking::lock_exclusive;
+pub use locking::lock_share;
+pub use slots::close_station;
+pub use slots::crash;
+pub use slots::is_free;
+pub use walk::first_broken_job;
 
 // A lock of a job: an unused place has mode 0.
 pub struct Lock {
@@ -14,4 +35,16 @@ pub struct Job {
     pub mark: u32,
     pub station: u32,
     pub locks: [Lock; LOCKS],
+}
+
+// What a call over the sixteen slots gives back: its answer, and the slots.
+pub struct Stepped {
+    pub answer: Answer,
+    pub jobs: [Job; JOBS],
+}
+
+// The slots after a station's jobs were closed, and how many were.
+pub struct Closed {
+    pub jobs: [Job; JOBS],
+    pub count: u32,
 }

@@ -33,7 +33,8 @@ after p [] = p
 after p (e ∷ es) = after (accepted p e .plant) es
 
 -- The busy plant. Series 0, of 10 to 19, is exclusive at station 0, where job 0 locks it and has drawn 4. Series 1 is a share at
--- stations 0 and 1, and a third is under way from 0 to 2. Series 2 has gone from 0 to 1, and its Release still stands.
+-- stations 0 and 1, and a third is under way from 0 to 2. Series 2 has gone from 0 to 1, and its Release still stands. Series 3 and 4 are
+-- exclusive at station 0, where job 1 locks both.
 unfoldable pub busy : Plant
 busy =
     after emptyPlant
@@ -49,6 +50,11 @@ busy =
     ∷ event OPEN 2 1 1 0
     ∷ event SEND 2 0 1 0
     ∷ event GRANT 2 0 1 1
+    ∷ event OPEN 3 1 1 0
+    ∷ event OPEN 4 1 1 0
+    ∷ event BEGIN 1 0 0 0
+    ∷ event LOCKX 1 3 0 0
+    ∷ event LOCKX 1 4 0 0
     ∷ [])
 
 -- a change of the lower layer's tables
@@ -149,6 +155,9 @@ damages =
     ∷ breaks 4 (inJob 0 (seriesAs 0 2))
     ∷ breaks 4 (inJob 0 (drawnAs 0 11))
     ∷ breaks 4 (inJob 0 (modeAs 0 1))
+    -- two jobs' exclusive locks of one copy; two locks of one series
+    ∷ breaks 4 (inJob 1 (seriesAs 0 0))
+    ∷ breaks 4 (inJob 1 (seriesAs 1 3))
     -- a series that isn't open, a Release that doesn't stand, an unused slot, an unused lock place keep something
     ∷ breaks 5 (inCopies (valueAs 9 0 5))
     ∷ breaks 5 (inCopies (receivedAs 63 7 0 1))

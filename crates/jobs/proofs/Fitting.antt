@@ -1,0 +1,132 @@
+-- What the test `fits` says of a job's draws, and that it holds in whole tables.
+-- Assumes nothing.
+use Prim.Native.Nat.{ℕ, _+_, _-_, _≤_, _<_}
+use native.Mathlib.Decide.{ℕ-discrete}
+use native.Mathlib.Omega.{arith}
+use mathlib.Core.Path.{_≡_, refl, sym}
+use mathlib.Core.Logic.{dite}
+use mathlib.Core.Bool.{true, false}
+use mathlib.Core.List.{List}
+use lib.Dec.{leb, eqb}
+use lib.ListN.{getD, length}
+use borrow.Author.Tests.{leb-true, le-leb, lt-leb, le-ltb, ne-eqb, not-true}
+use Rattle.words.specs.Numbers.{stationCount, seriesCount, lockCount, placeCount, greatestSerial, share, exclusive}
+use Rattle.words.specs.Tests.{non, _and_, _or_}
+use Rattle.words.proofs.Laws.{both-true, true-all}
+use Rattle.words.proofs.Guards.{non-false, parts}
+use Rattle.words.proofs.Reflects.{Reflects, reflects-self, reflects-eq, reflects-not, reflects-and, reflects-unless}
+use Rattle.copies.specs.Tables.{Copies, seriesAt, place, value}
+use Rattle.copies.specs.Calls.{badCopy, beyond}
+use Rattle.copies.proofs.Guards.{good-copy}
+use Rattle.copies.specs.Facts.{CopiesWhole}
+use Rattle.copies.proofs.Reading.{read-at, copy-good}
+use Rattle.copies.proofs.Long.{Long}
+use Rattle.jobs.specs.declared.Job.{Job}
+use Rattle.jobs.specs.Job.{lockAt, isUsed}
+use Rattle.jobs.specs.Whole.{W4differs}
+use Rattle.jobs.specs.Slots.{jobAt}
+use Rattle.jobs.specs.Draws.{valueThere, drawFits, fits}
+use Rattle.jobs.specs.Facts.{OpenJob, Used, lockedSeries, LockWhole, JobWhole}
+use Rattle.jobs.proofs.Reflect.{used-reflects, W4differs-reflects}
+
+-- A count can be added to the value of the copy of series s at station n: there is such a copy, and the sum passes neither last + 1
+-- (W4) nor the greatest value that there is (W1).
+pub record Addable (lasts values : List ℕ) (s n count : ℕ) : Type 0 where
+  pub longLasts : seriesCount ≤ length lasts
+  pub longValues : placeCount ≤ length values
+  pub series : s < seriesCount
+  pub station : n < stationCount
+  pub within : count ≤ getD lasts s 0 + 1 - getD values (place s n) 0
+  pub small : getD values (place s n) 0 + count ≤ greatestSerial + 1
+
+module _ (lasts values : List ℕ) (s n count : ℕ) where
+  -- a count isn't beyond what is left: refusals 1, 3 and 14 are not given
+  not-beyond : beyond lasts values s n count ≡ false → (seriesCount ≤ length lasts) × (placeCount ≤ length values) × (badCopy s n ≡ false) × (count ≤ getD lasts s 0 + 1 - getD values (place s n) 0)
+  unfolding beyond _or_
+  not-beyond e = search parts
+
+  -- where the columns are long enough and there is such a copy, its value is read
+  pub value-there : Addable lasts values s n count → valueThere values s n ≡ getD values (place s n) 0
+  value-there a = sym (read-at placeCount values (badCopy s n) (place s n) (a .longValues) (copy-good s n (a .series) (a .station)))
+
+  -- what can be added isn't beyond what is left
+  addable-within : Addable lasts values s n count → beyond lasts values s n count ≡ false
+  unfolding beyond _or_
+  addable-within a = rw (le-ltb _ _ (a .longLasts), le-ltb _ _ (a .longValues), copy-good s n (a .series) (a .station)) (le-ltb _ _ (a .within))
+
+  -- the test of a draw says that it can be added
+  reflects-addable : Reflects (non (beyond lasts values s n count) and leb (valueThere values s n + count) (greatestSerial + 1)) (Addable lasts values s n count)
+  unfolding non _and_
+  reflects-addable = (λ e. adds (both-true _ _ e), λ a. rw (addable-within a, value-there a) (le-leb _ _ (a .small)))
+    where
+      adds : (non (beyond lasts values s n count) ≡ true) × (leb (valueThere values s n + count) (greatestSerial + 1) ≡ true) → Addable lasts values s n count
+      adds w =
+          let p = not-beyond (not-true _ (w .0)) in
+          let fit = good-copy s n refl (p .2) in
+          record {
+            longLasts = p .0;
+            longValues = p .1;
+            series = fit .0;
+            station = fit .1;
+            within = p .3;
+            small = rw (read-at placeCount values (badCopy s n) (place s n) (p .1) (p .2)) (leb-true _ _ (w .1));
+          }
+
+-- What a place with a draw has: the count can be added to its copy's value, the place is used, and no earlier place is on its series (W4).
+abbrev pub Drawable : (lasts values : List ℕ) → Job → ℕ → Type 0
+Drawable lasts values b i =
+    (Addable lasts values (lockAt b i .series) (b .station) (lockAt b i .drawn) × (isUsed b i ≡ true)) × (W4differs b i ≡ true)
+
+-- the test of a place says that what it has drawn, if anything, can be committed
+pub reflects-draw : (lasts values : List ℕ) (b : Job) (i : ℕ) → Reflects (drawFits lasts values b i) ((lockAt b i .drawn ≡ 0 → ⊥) → Drawable lasts values b i)
+unfolding drawFits
+reflects-draw lasts values b i =
+    reflects-unless (eqb (lockAt b i .drawn) 0) _ (reflects-not _ (reflects-eq (lockAt b i .drawn) 0))
+    (reflects-and _ _ (reflects-and _ _ (reflects-addable lasts values (lockAt b i .series) (b .station) (lockAt b i .drawn)) (reflects-self (isUsed b i)))
+    (reflects-self (W4differs b i)))
+
+-- in whole tables all that an open job has drawn can be committed: a draw is on an exclusive lock, within its series (W4), and no series
+-- goes past the greatest last number (W1)
+module _ (t : Copies) (bs : List Job) (j : ℕ) (long : Long t) (below : CopiesWhole t) (whole : JobWhole t bs j) (opened : OpenJob (jobAt bs j)) where
+  abbrev here : Job
+  here = jobAt bs j
+
+  module _ (i : ℕ) (l : i < lockCount) (drawn : lockAt here i .drawn ≡ 0 → ⊥) where
+    -- a place with a draw is used
+    used : Used here i
+    used e = drawn (whole .place i l .zero e .1)
+
+    -- what W4 says of it
+    own : LockWhole t here i
+    own = whole .opened opened .lock i l used
+
+    -- its lock is exclusive
+    locked : lockAt here i .mode ≡ exclusive
+    locked =
+        let few = whole .range .ofLock i l .ofMode in
+        dite (ℕ-discrete (lockAt here i .mode) share) (λ e. absurd (drawn (own .noDraw e))) (λ other. omega (arith, used, other))
+
+    -- so it can be committed
+    drawable : Drawable (t .lasts) (t .values) here i
+    drawable =
+        let s = whole .range .ofLock i l .ofSeries in
+        let within = own .within locked in
+        let last = below .opened (lockAt here i .series) s (own .opened) .bounds .1 in
+        let sum : value (lockedSeries t here i) (here .station) + lockAt here i .drawn ≤ greatestSerial + 1 = omega arith in (
+          (
+            record {
+              longLasts = long .lasts;
+              longValues = long .values;
+              series = s;
+              station = whole .range .ofStation;
+              within = within;
+              small = sum;
+            },
+            used-reflects here i .1 used,
+          ),
+          W4differs-reflects here i .1 (own .differs),
+        )
+
+  pub whole-fits : fits (t .lasts) (t .values) here ≡ true
+  unfolding fits
+  whole-fits = true-all lockCount _ (λ i l. reflects-draw (t .lasts) (t .values) here i .1 (drawable i l))

@@ -1,0 +1,9 @@
+pub mod Places
+pub mod Closing
+pub mod Crashing
+pub mod Asking
+pub mod Reflect
+pub mod Unbroken
+pub mod Ways
+pub mod Fitting
+pub mod Stored
