@@ -25,6 +25,7 @@ pub other-kind : {r k m : ℕ} → r ≡ k → (r ≡ m → ⊥) → non (eqb k 
 unfolding non
 other-kind {r} {k} {m} p h = rw (← p, ne-eqb r m h)
 
+-- and where it is not given
 pub same-kind : {r k m : ℕ} → r ≡ k → r ≡ m → non (eqb k m) ≡ false
 unfolding non
 same-kind {r} {k} {m} p h = rw (← p, eq-eqb r m h)

@@ -50,20 +50,22 @@ module _ (n : ℕ) where
     there : jobThere (jobAt bs k) n ≡ r
     there = rw (sym (close-later k bs k (omega arith)), ← p, ← q)
 
-    -- a turn at a job that isn't of the station
+    -- a turn at a job that isn't of the station: the slots stay
     pub kept-slots : not r ≡ true → left ≡ closeFirst n j bs
     kept-slots h = rw (next, add-one, p) (close-miss k bs (there ∙ not-true r h))
 
+    -- and its count
     pub kept-count : (count : ℕ) → count ≡ sumBelow k (λ i. oneIf (jobThere (jobAt bs i) n)) → not r ≡ true → count ≡ sumBelow j (λ i. oneIf (jobThere (jobAt bs i) n))
     unfolding oneIf
     kept-count count e h =
         let none : 0 ≡ oneIf (jobThere (jobAt bs k) n) = rw (there, not-true r h) in
         sym (add-zero count) ∙ sum-next _ k j count 0 e none next
 
-    -- a turn at one that is
+    -- a turn at one that is: the slot is closed
     pub gone-slots : (x : Job) → x ≡ noJob → not r ≡ false → set left k x ≡ closeFirst n j bs
     gone-slots x e h = rw (next, add-one, p, e) (close-hit k bs (there ∙ not-false r h))
 
+    -- and its count
     pub gone-count : (count : ℕ) → count ≡ sumBelow k (λ i. oneIf (jobThere (jobAt bs i) n)) → not r ≡ false → count + 1 ≡ sumBelow j (λ i. oneIf (jobThere (jobAt bs i) n))
     unfolding oneIf
     gone-count count e h =

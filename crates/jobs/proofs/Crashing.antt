@@ -17,11 +17,12 @@ use Rattle.jobs.specs.Slots.{closedAt, countAt}
 use Rattle.jobs.specs.Calls.{Outcome, outcome, stepped, refused, crash}
 
 module _ (t left down : Copies) (bs : List Job) (out : List ℕ) (a : Answer) (code : ℕ) (said : code ≡ codeOf a) where
-  -- three refusals and then the step, of both layers
+  -- three refusals and then the step, of the lower layer
   abbrev ofCopies : Bool → Bool → Bool → lower.Outcome
   ofCopies x y z =
       lower.refuse t Short x (lower.refuse t BadEvent y (lower.refuse t Down z (lower.done 0 down)))
 
+  -- and of the whole event
   abbrev ofBoth : Bool → Bool → Bool → Outcome → Outcome
   ofBoth x y z last =
       refuseIf x (refused t bs out Short) (refuseIf y (refused t bs out BadEvent) (refuseIf z (refused t bs out Down) last))
@@ -33,6 +34,7 @@ module _ (t left down : Copies) (bs : List Job) (out : List ℕ) (a : Answer) (c
       let tables : left ≡ u = ap (λ (x : lower.Outcome). x .copies) e in
       rw (answers, tables)
 
+  -- a code other than 0 is a refusal of both
   refusal : (x y z : Bool) (last : Outcome) → lower.outcome a left ≡ ofCopies x y z → (code ≡ 0 → ⊥) → outcome (stepped a bs) left out ≡ ofBoth x y z last
   unfolding refuseIf
   refusal true y z last e h = alike Short t e
@@ -40,6 +42,7 @@ module _ (t left down : Copies) (bs : List Job) (out : List ℕ) (a : Answer) (c
   refusal false false true last e h = alike Down t e
   refusal false false false last e h = absurd (h (said ∙ ap (λ (x : lower.Outcome). codeOf (x .answer)) e))
 
+  -- code 0 is given after all three
   ending : (x y z : Bool) (v : ℕ) (jobs : List Job) → lower.outcome a left ≡ ofCopies x y z → code ≡ 0 → outcome (stepped (Done v) jobs) left out ≡ ofBoth x y z (outcome (stepped (Done v) jobs) down out)
   unfolding refuseIf
   ending true y z v jobs e h = absurd (let no : 0 ≡ 1 = sym h ∙ said ∙ ap (λ (x : lower.Outcome). codeOf (x .answer)) e in omega arith)

@@ -9,13 +9,13 @@ use mathlib.Core.Bool.{true, false}
 use mathlib.Core.List.{List}
 use lib.Dec.{leb, eqb}
 use lib.ListN.{getD, length}
-use borrow.Author.Tests.{leb-true, le-leb, lt-leb, le-ltb, ne-eqb, not-true}
+use borrow.Author.Tests.{leb-true, le-leb, le-ltb, not-true}
 use Rattle.words.specs.Numbers.{stationCount, seriesCount, lockCount, placeCount, greatestSerial, share, exclusive}
 use Rattle.words.specs.Tests.{non, _and_, _or_}
 use Rattle.words.proofs.Laws.{both-true, true-all}
-use Rattle.words.proofs.Guards.{non-false, parts}
+use Rattle.words.proofs.Guards.{parts}
 use Rattle.words.proofs.Reflects.{Reflects, reflects-self, reflects-eq, reflects-not, reflects-and, reflects-unless}
-use Rattle.copies.specs.Tables.{Copies, seriesAt, place, value}
+use Rattle.copies.specs.Tables.{Copies, place, value}
 use Rattle.copies.specs.Calls.{badCopy, beyond}
 use Rattle.copies.proofs.Guards.{good-copy}
 use Rattle.copies.specs.Facts.{CopiesWhole}
@@ -88,6 +88,7 @@ reflects-draw lasts values b i =
 -- in whole tables all that an open job has drawn can be committed: a draw is on an exclusive lock, within its series (W4), and no series
 -- goes past the greatest last number (W1)
 module _ (t : Copies) (bs : List Job) (j : ℕ) (long : Long t) (below : CopiesWhole t) (whole : JobWhole t bs j) (opened : OpenJob (jobAt bs j)) where
+  -- the job in slot j
   abbrev here : Job
   here = jobAt bs j
 
@@ -127,6 +128,7 @@ module _ (t : Copies) (bs : List Job) (j : ℕ) (long : Long t) (below : CopiesW
           W4differs-reflects here i .1 (own .differs),
         )
 
+  -- and so can all that the job has drawn
   pub whole-fits : fits (t .lasts) (t .values) here ≡ true
   unfolding fits
   whole-fits = true-all lockCount _ (λ i l. reflects-draw (t .lasts) (t .values) here i .1 (drawable i l))

@@ -1,6 +1,5 @@
 -- `store_one` meets its contract: no draw stores nothing; of a draw the three numbers are written, and `raise` adds the count. Assumes nothing.
 use native.Mathlib.Omega.{arith}
-use mathlib.Core.Path.{refl}
 use lib.ListN.{length-set}
 use borrow.Author.Needs.{needs}
 use Rattle.jobs.proofs.Stored.{none-stored, one-stored}
@@ -8,7 +7,7 @@ use Rattle.jobs.proofs.committing.store_one.Statement.{statement}
 use Rattle.jobs.proofs.committing.store_one.Tie as tie
 
 returns : tie.Need-returns
-returns c fs ks ns rt rk rv gs us = none-stored _ _ _ _ _ _ (c .if1 .taken) refl
+returns c fs ks ns rt rk rv gs us = search none-stored
 
 value-requires : tie.Need-value-requires
 value-requires c κs = search needs
@@ -57,8 +56,8 @@ same-length-2 c = search needs
 
 returns-2 : tie.Need-returns-2
 returns-2 c fs ks ns rt rk rv gs us =
-    let d = c .before .before in
-    one-stored _ _ _ _ _ _ _ _ (d .before .before .before .before .if1 .left) (d .before .before .value .ensures) (d .raise .ensures fs ks ns rt rk rv gs us)
+    let raised = c .before .before .raise .ensures fs ks ns rt rk rv gs us in
+    search one-stored
 
 pub store-one-spec : {M : Type 1} → statement M
 store-one-spec =
