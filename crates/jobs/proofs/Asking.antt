@@ -1,13 +1,14 @@
 -- What the guards of the calls ask of the lower layer, and how their flags decide the refusals' tests. Assumes nothing.
 use Prim.Native.Nat.{ℕ, _≤_, _<_}
-use mathlib.Core.Path.{_≡_, refl, ap, _∙_}
-use mathlib.Core.Bool.{Bool, true, false, not, _&&_, _||_}
+use mathlib.Core.Path.{_≡_, ap, sym, _∙_}
+use mathlib.Core.Bool.{Bool, true, false, not, _||_}
 use mathlib.Core.List.{List, []}
 use lib.Dec.{eqb, leb}
 use lib.ListN.{getD, length}
 use borrow.Author.Tests.{eq-eqb, ne-eqb, leb-false}
 use Rattle.words.specs.Numbers.{stationCount, seriesCount, jobCount, exclusive}
 use Rattle.words.specs.Tests.{non, _and_, _or_}
+use Rattle.words.proofs.Laws.{non-and, flag-not}
 use Rattle.words.proofs.Guards.{or-call, or-left, or-right}
 use Rattle.copies.specs.Tables.{tables}
 use Rattle.copies.specs.Calls.{read}
@@ -16,9 +17,8 @@ use Rattle.jobs.specs.declared.Lock.{Lock}
 
 -- refusal 5 of a series and a job
 pub not-open : (firsts : List ℕ) (s : ℕ) {r q b v : Bool} → seriesCount ≤ length firsts → s < seriesCount → r ≡ non (eqb (read seriesCount firsts (leb seriesCount s) s) 0) → q ≡ b → (not r || not q) ≡ v → (non (non (eqb (getD firsts s 0) 0)) or non b) ≡ v
-unfolding non
 not-open firsts s {r} {q} {b} {v} l h p e flag =
-    or-call _ _ _ _ v (ap not (read-open (tables firsts [] [] [] [] [] [] [] [] []) s r l h p)) (ap not e) flag
+    or-call _ _ _ _ v (flag-not r _ (read-open (tables firsts [] [] [] [] [] [] [] [] []) s r l h p)) (flag-not q b e) flag
 
 -- refusal 10, from the kind that a call reads
 pub other-kind : {r k m : ℕ} → r ≡ k → (r ≡ m → ⊥) → non (eqb k m) ≡ true
@@ -32,12 +32,9 @@ same-kind {r} {k} {m} p h = rw (← p, eq-eqb r m h)
 
 -- refusal 12, of DRAW
 pub no-lock : (l own : Lock) {r a v : Bool} → r ≡ a → l ≡ own → (not r || not (eqb (l .mode) exclusive)) ≡ v → non (a and eqb (own .mode) exclusive) ≡ v
-unfolding non _and_
-no-lock l own {r} {a} {v} p q e = rw (← p, ← q) (not-and r (eqb (l .mode) exclusive) ∙ e)
-  where
-    not-and : (x y : Bool) → not (x && y) ≡ (not x || not y)
-    not-and true y = refl
-    not-and false y = refl
+no-lock l own {r} {a} {v} p q e =
+    sym (non-and a (eqb (own .mode) exclusive))
+    ∙ or-call _ _ _ _ v (flag-not r a p) (flag-not (eqb (l .mode) exclusive) _ (ap (λ (x : Lock). eqb (x .mode) exclusive) q)) e
 
 -- refusal 3 is not given: job and series
 pub good-lock : (j s : ℕ) → (leb jobCount j || leb seriesCount s) ≡ false → (j < jobCount) × (s < seriesCount)

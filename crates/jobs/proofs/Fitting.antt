@@ -25,7 +25,7 @@ use Rattle.jobs.specs.declared.Job.{Job}
 use Rattle.jobs.specs.Job.{lockAt, isUsed}
 use Rattle.jobs.specs.Whole.{W4differs}
 use Rattle.jobs.specs.Slots.{jobAt}
-use Rattle.jobs.specs.Draws.{valueThere, drawFits, fits}
+use Rattle.jobs.specs.Draws.{entryThere, drawFits, fits}
 use Rattle.jobs.specs.Facts.{OpenJob, Used, lockedSeries, LockWhole, JobWhole}
 use Rattle.jobs.proofs.Reflect.{used-reflects, W4differs-reflects}
 
@@ -46,7 +46,7 @@ module _ (lasts values : List ℕ) (s n count : ℕ) where
   not-beyond e = search parts
 
   -- where the columns are long enough and there is such a copy, its value is read
-  pub value-there : Addable lasts values s n count → valueThere values s n ≡ getD values (place s n) 0
+  pub value-there : Addable lasts values s n count → entryThere values s n ≡ getD values (place s n) 0
   value-there a = sym (read-at placeCount values (badCopy s n) (place s n) (a .longValues) (copy-good s n (a .series) (a .station)))
 
   -- what can be added isn't beyond what is left
@@ -55,11 +55,11 @@ module _ (lasts values : List ℕ) (s n count : ℕ) where
   addable-within a = rw (le-ltb _ _ (a .longLasts), le-ltb _ _ (a .longValues), copy-good s n (a .series) (a .station)) (le-ltb _ _ (a .within))
 
   -- the test of a draw says that it can be added
-  reflects-addable : Reflects (non (beyond lasts values s n count) and leb (valueThere values s n + count) (greatestSerial + 1)) (Addable lasts values s n count)
+  reflects-addable : Reflects (non (beyond lasts values s n count) and leb (entryThere values s n + count) (greatestSerial + 1)) (Addable lasts values s n count)
   unfolding non _and_
   reflects-addable = (λ e. adds (both-true _ _ e), λ a. rw (addable-within a, value-there a) (le-leb _ _ (a .small)))
     where
-      adds : (non (beyond lasts values s n count) ≡ true) × (leb (valueThere values s n + count) (greatestSerial + 1) ≡ true) → Addable lasts values s n count
+      adds : (non (beyond lasts values s n count) ≡ true) × (leb (entryThere values s n + count) (greatestSerial + 1) ≡ true) → Addable lasts values s n count
       adds w =
           let p = not-beyond (not-true _ (w .0)) in
           let fit = good-copy s n refl (p .2) in

@@ -26,7 +26,7 @@ use Rattle.jobs.specs.declared.Job.{Job}
 use Rattle.jobs.specs.Job.{noLock, noJob, lockAt, isUsed}
 use Rattle.jobs.specs.Slots.{jobAt}
 use Rattle.jobs.specs.Whole.{W4differs}
-use Rattle.jobs.specs.Draws.{Draw, valueThere, drawsOn, drawsOf, committed, shown, fits}
+use Rattle.jobs.specs.Draws.{Draw, entryThere, drawsOn, drawsOf, committed, shown, fits}
 use Rattle.jobs.specs.Store.{Store, store, storeOne, storeFirst}
 use Rattle.jobs.specs.Calls.{stepped, outcome, commits}
 use Rattle.jobs.proofs.Fitting.{Addable, value-there, Drawable, reflects-draw}
@@ -100,7 +100,7 @@ module _ (n : ℕ) (l : Lock) where
   none-stored k r t out e z = rw (z, add-zero) (sym (one-none (store k t out) e))
 
   -- a draw, as it is stored: three numbers of the output, then the raise
-  pub one-stored : (k : ℕ) (t t′ : Copies) (out : List ℕ) (v : ℕ) (a : Answer) → l .drawn ≢ 0 → v ≡ valueThere (t .values) (l .series) n → answered a t′ ≡ raise t (l .series) n (l .drawn) → store (k + 1) t′ (set (set (set out (3 * k) (l .series)) (3 * k + 1) v) (3 * k + 2) (l .drawn)) ≡ storeOne n l (store k t out)
+  pub one-stored : (k : ℕ) (t t′ : Copies) (out : List ℕ) (v : ℕ) (a : Answer) → l .drawn ≢ 0 → v ≡ entryThere (t .values) (l .series) n → answered a t′ ≡ raise t (l .series) n (l .drawn) → store (k + 1) t′ (set (set (set out (3 * k) (l .series)) (3 * k + 1) v) (3 * k + 2) (l .drawn)) ≡ storeOne n l (store k t out)
   unfolding storeOne
   one-stored k t t′ out v a ne p e = rw (ne-eqb _ _ ne, ← p, ← e, add-one (3 * k), add-two)
 
@@ -126,8 +126,8 @@ store-end b n i x z le ge e = let same : n ≡ i = omega arith in rw same e
 
 -- ---- the places of a job, from the front
 -- the lock at place i
-abbrev lockIn : List Lock → ℕ → Lock
-lockIn ls i = getD ls i noLock
+abbrev lockOf : List Lock → ℕ → Lock
+lockOf ls i = getD ls i noLock
 
 -- a job of these locks
 abbrev jobOf : ℕ → ℕ → List Lock → Job
@@ -137,19 +137,19 @@ jobOf mark n ls = record { mark = mark; station = n; locks = ls }
 store-front : (mark n : ℕ) (l : Lock) (ls : List Lock) (i : ℕ) (x : Store) → storeFirst (jobOf mark n (l ∷ ls)) (suc i) x ≡ storeFirst (jobOf mark n ls) i (storeOne n l x)
 unfolding storeFirst
 store-front mark n l ls zero x = refl
-store-front mark n l ls (suc i) x = ap (storeOne n (lockIn ls i)) (store-front mark n l ls i x)
+store-front mark n l ls (suc i) x = ap (storeOne n (lockOf ls i)) (store-front mark n l ls i x)
 
 -- each draw of these locks can be added
 abbrev Adds : Copies → ℕ → List Lock → Type 0
-Adds t n ls = (i : ℕ) → i < length ls → lockIn ls i .drawn ≢ 0 → Addable (t .lasts) (t .values) (lockIn ls i .series) n (lockIn ls i .drawn)
+Adds t n ls = (i : ℕ) → i < length ls → lockOf ls i .drawn ≢ 0 → Addable (t .lasts) (t .values) (lockOf ls i .series) n (lockOf ls i .drawn)
 
 -- no two draws are in one series
-abbrev Apart : List Lock → Type 0
-Apart ls = (i k : ℕ) → i < length ls → k < i → lockIn ls i .drawn ≢ 0 → lockIn ls k .drawn ≢ 0 → lockIn ls i .series ≢ lockIn ls k .series
+abbrev SeriesDiffer : List Lock → Type 0
+SeriesDiffer ls = (i k : ℕ) → i < length ls → k < i → lockOf ls i .drawn ≢ 0 → lockOf ls k .drawn ≢ 0 → lockOf ls i .series ≢ lockOf ls k .series
 
 -- no draw is in series s
 abbrev NotIn : ℕ → List Lock → Type 0
-NotIn s ls = (i : ℕ) → i < length ls → lockIn ls i .drawn ≢ 0 → lockIn ls i .series ≢ s
+NotIn s ls = (i : ℕ) → i < length ls → lockOf ls i .drawn ≢ 0 → lockOf ls i .series ≢ s
 
 -- a raise of a series that no draw is in leaves the draws
 draws-raised : (t : Copies) (s n count : ℕ) (ls : List Lock) → NotIn s ls → drawsOn (raised t s n count) n ls ≡ drawsOn t n ls
@@ -162,11 +162,11 @@ draws-raised t s n count (l ∷ ls) h =
     (λ ne. draws-some n l _ ls ne ∙ rw (raised-value t s n count (h 0 (omega arith) ne), rest) (sym (draws-some n l t ls ne)))
 
 -- the places stored one by one: their draws counted, committed and shown
-stored-draws : (mark n : ℕ) (ls : List Lock) (k : ℕ) (t : Copies) (out : List ℕ) → Adds t n ls → Apart ls → storeFirst (jobOf mark n ls) (length ls) (store k t out) ≡ afterDraws k t out (drawsOn t n ls)
+stored-draws : (mark n : ℕ) (ls : List Lock) (k : ℕ) (t : Copies) (out : List ℕ) → Adds t n ls → SeriesDiffer ls → storeFirst (jobOf mark n ls) (length ls) (store k t out) ≡ afterDraws k t out (drawsOn t n ls)
 unfolding storeFirst drawsOn committed shown
 stored-draws mark n [] k t out adds apart = rw add-zero
 stored-draws mark n (l ∷ ls) k t out adds apart =
-    let rest : Apart ls = λ i k le lt. apart (suc i) (suc k) (omega arith) (omega arith) in
+    let rest : SeriesDiffer ls = λ i k le lt. apart (suc i) (suc k) (omega arith) (omega arith) in
     store-front mark n l ls (length ls) (store k t out)
     ∙ dite (ℕ-discrete (l .drawn) 0)
     (λ e. rw (one-none n l (store k t out) e, draws-none n l t ls e) (stored-draws mark n ls k t out (λ i le. adds (suc i) (omega arith)) rest))
@@ -202,7 +202,7 @@ stored-whole b t out four fit =
     at : (i : ℕ) → i < length (b .locks) → lockAt b i .drawn ≢ 0 → Drawable (t .lasts) (t .values) b i
     at i le = reflects-draw (t .lasts) (t .values) b i .0 (all-true lockCount _ fit i (rw (← four) le))
 
-    apart : Apart (b .locks)
+    apart : SeriesDiffer (b .locks)
     apart i k le lt d e = differs-earlier b i k (at i le d .1) lt (at k (omega arith) e .0 .1)
 
 -- COMMIT accepted: with the job's draws stored its slot is closed

@@ -1,6 +1,6 @@
 -- The layer's calls: for each event of "The seventeen events" in 01 that a job takes part in, its refusals in the order of the checks
--- and its accepted step. A call asks SHORT only of the columns lent to it. Whether the tables are whole is not asked; where a sum could
--- then be out of range, the refusal is NOT WHOLE.
+-- and its accepted step. A call asks SHORT only of the columns lent to it. Whether the tables are whole is not asked; where the numbers of
+-- a READ or a COMMIT don't fit, as they do in whole tables, the refusal is NOT WHOLE.
 -- Assumes nothing.
 use Prim.Native.Nat.{ℕ, _+_}
 use mathlib.Core.Bool.{Bool, true}
@@ -19,7 +19,7 @@ use Rattle.jobs.specs.declared.Job.{Job}
 use Rattle.jobs.specs.declared.Stepped.{Stepped}
 use Rattle.jobs.specs.Job.{noJob, jobOpen, locksSeries, lockOn, isFull, begun, withLock, withDraw}
 use Rattle.jobs.specs.Slots.{jobAt, free, closedAt, countAt}
-use Rattle.jobs.specs.Draws.{Draw, kindThere, valueThere, drawsOf, committed, shown, fits}
+use Rattle.jobs.specs.Draws.{Draw, entryThere, drawsOf, committed, shown, fits}
 
 -- an answer and the slots
 abbrev pub stepped : Answer → List Job → Stepped
@@ -53,7 +53,7 @@ lockIn t bs free j s mode =
     refuse bs None (notOpen t (jobAt bs j) s)
     (refuse bs Held (locksSeries (jobAt bs j) s)
     (refuse bs Full (isFull (jobAt bs j))
-    (refuse bs Copy (non (eqb (kindThere t s (jobAt bs j .station)) mode))
+    (refuse bs Copy (non (eqb (entryThere (t .kinds) s (jobAt bs j .station)) mode))
     (refuse bs Locked (non free)
     (stored bs j (withLock (jobAt bs j) s mode))))))
 
@@ -100,8 +100,8 @@ unfoldable pub readIn : Copies → Job → ℕ → Answer
 readIn t b s =
     refuseIf (notOpen t b s) None
     (refuseIf (non (locksSeries b s)) NoLock
-    (refuseIf (ltb (greatestSerial + 1) (valueThere (t .values) s (b .station) + lockOn b s .drawn)) NotWhole
-    (Done (valueThere (t .values) s (b .station) + lockOn b s .drawn))))
+    (refuseIf (ltb (greatestSerial + 1) (entryThere (t .values) s (b .station) + lockOn b s .drawn)) NotWhole
+    (Done (entryThere (t .values) s (b .station) + lockOn b s .drawn))))
 
 -- 6 READ
 unfoldable pub read : Copies → List Job → ℕ → ℕ → Answer

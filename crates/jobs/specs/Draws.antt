@@ -14,14 +14,9 @@ use Rattle.jobs.specs.declared.Job.{Job}
 use Rattle.jobs.specs.Job.{lockAt, isUsed}
 use Rattle.jobs.specs.Whole.{W4differs}
 
--- ---- the copy that a job's lock is on
--- its kind; 0 where the series or the station is none (W1 allows no such job)
-abbrev pub kindThere : Copies → ℕ → ℕ → ℕ
-kindThere t s n = read placeCount (t .kinds) (badCopy s n) (place s n)
-
--- its value, likewise
-abbrev pub valueThere : (values : List ℕ) → ℕ → ℕ → ℕ
-valueThere values s n = read placeCount values (badCopy s n) (place s n)
+-- what a column keeps of the copy of series s at station n; 0 where there is no such copy (W1 allows no such job)
+abbrev pub entryThere : (column : List ℕ) → ℕ → ℕ → ℕ
+entryThere column s n = read placeCount column (badCopy s n) (place s n)
 
 -- ---- the draws
 -- A draw: the serials of a series from the first, as many as the count, drawn at a station.
@@ -59,7 +54,7 @@ drawFits lasts values b i =
     let l : Lock = lockAt b i in
     eqb (l .drawn) 0
     or non (beyond lasts values (l .series) (b .station) (l .drawn))
-    and leb (valueThere values (l .series) (b .station) + l .drawn) (greatestSerial + 1)
+    and leb (entryThere values (l .series) (b .station) + l .drawn) (greatestSerial + 1)
     and isUsed b i
     and W4differs b i
 

@@ -11,7 +11,7 @@ use Rattle.copies.specs.Calls.{raise}
 use Rattle.jobs.specs.declared.Lock.{Lock}
 use Rattle.jobs.specs.declared.Job.{Job}
 use Rattle.jobs.specs.Job.{lockAt}
-use Rattle.jobs.specs.Draws.{valueThere}
+use Rattle.jobs.specs.Draws.{entryThere}
 
 -- How many draws are stored, the lower layer's tables, and the output.
 pub record Store : Type 0 where
@@ -28,7 +28,7 @@ unfoldable pub storeOne : ℕ → Lock → Store → Store
 storeOne n l x =
     cond (eqb (l .drawn) 0) x
     (store (x .count + 1) (raise (x .copies) (l .series) n (l .drawn) .copies)
-    (sets (x .out) (3 * x .count) (l .series ∷ valueThere (x .copies .values) (l .series) n ∷ l .drawn ∷ [])))
+    (sets (x .out) (3 * x .count) (l .series ∷ entryThere (x .copies .values) (l .series) n ∷ l .drawn ∷ [])))
 
 -- what the first i lock places of a job have drawn is stored
 unfoldable pub storeFirst : Job → ℕ → Store → Store

@@ -32,6 +32,18 @@ unfolding _and_
 both-true true b e = (refl, e)
 both-true false b e = absurd (true≢false (sym e))
 
+-- not both is one or the other not
+pub non-and : (a b : Bool) → (non a or non b) ≡ non (a and b)
+unfolding non _and_ _or_
+non-and true b = refl
+non-and false b = refl
+
+-- not one or the other is both not
+pub non-or : (a b : Bool) → non (a or b) ≡ (non a and non b)
+unfolding non _and_ _or_
+non-or true b = refl
+non-or false b = refl
+
 -- ---- all
 pub all-none : (f : ℕ → Bool) → true ≡ allBelow 0 f
 unfolding allBelow
@@ -207,15 +219,11 @@ some-least n f m e = by-case (someBelow n f) refl
     by-case true h = lt-ltb m n (rw e (least-true n f h .0))
     by-case false h = le-ltb m n (let q : m ≡ n = e ∙ none-least n f h in omega arith)
 
--- some fail where not all hold
+-- that some fail is that not all hold
 pub some-non : (n : ℕ) (f : ℕ → Bool) → someBelow n (λ i. non (f i)) ≡ non (allBelow n f)
-unfolding someBelow allBelow _or_ _and_ non
+unfolding someBelow allBelow non
 some-non zero f = refl
-some-non (suc n) f = rw (some-non n f) (not-and (allBelow n f) (f n))
-  where
-    not-and : (a b : Bool) → (not a || not b) ≡ not (a && b)
-    not-and true b = refl
-    not-and false b = refl
+some-non (suc n) f = rw (some-non n f) (non-and (allBelow n f) (f n))
 
 -- the least at which a test fails is n where all hold
 pub all-least : (n : ℕ) (f : ℕ → Bool) (m : ℕ) → m ≡ leastBelow n (λ i. non (f i)) → eqb m n ≡ allBelow n f
@@ -293,10 +301,6 @@ pub ruleset flags = (flag-not, flag-and, flag-or, non-non)
 
 -- that none passes is that each fails
 pub some-none-of : (n : ℕ) (f : ℕ → Bool) → non (someBelow n f) ≡ allBelow n (λ i. non (f i))
-unfolding non someBelow allBelow _or_ _and_
+unfolding someBelow allBelow non
 some-none-of zero f = refl
-some-none-of (suc n) f = rw (← some-none-of n f) (neither (someBelow n f) (f n))
-  where
-    neither : (a b : Bool) → not (a || b) ≡ (not a && not b)
-    neither true b = refl
-    neither false b = refl
+some-none-of (suc n) f = rw (← some-none-of n f) (non-or (someBelow n f) (f n))

@@ -1,12 +1,11 @@
 -- `jobs::slots::is_free` meets its contract: each turn joins the test of its slot. Assumes nothing.
 use Prim.Native.Nat.{_≤_, _-_}
 use native.Mathlib.Omega.{arith}
-use mathlib.Core.Path.{_≡_, refl, ap}
-use mathlib.Core.Bool.{not}
+use mathlib.Core.Path.{_≡_}
 use borrow.Author.Needs.{needs}
 use Rattle.words.specs.Numbers.{jobCount}
 use Rattle.words.specs.Tests.{non, allBelow}
-use Rattle.words.proofs.Laws.{all-none, all-next, all-end}
+use Rattle.words.proofs.Laws.{all-none, all-next, all-end, flags}
 use Rattle.jobs.specs.Slots.{jobAt, locksCopy, free}
 use Rattle.jobs.proofs.slots.is_free.Statement.{statement}
 use Rattle.jobs.proofs.slots.is_free.Tie as tie
@@ -37,9 +36,7 @@ loop-less : tie.Need-loop-less Inv-loop μ-loop
 loop-less c = omega arith
 
 loop-again : tie.Need-loop-again Inv-loop μ-loop
-unfolding non
-loop-again c =
-    (omega arith, all-next _ _ _ _ _ (c .before .before .before .loop .inv .1) (ap not (c .locks-copy .ensures)) refl)
+loop-again c = (omega arith, search (all-next, flags))
 
 returns : tie.Need-returns Inv-loop μ-loop
 unfolding free
