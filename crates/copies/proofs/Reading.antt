@@ -11,16 +11,10 @@ use borrow.Author.Tests.{lt-ltb, le-ltb, lt-leb}
 use lib.ListN.{getD, length}
 use Rattle.words.specs.Numbers.{stationCount, seriesCount, placeCount}
 use Rattle.words.specs.Tests.{non, _or_, oneIf, sumBelow}
-use Rattle.words.proofs.Laws.{sum-next}
+use Rattle.words.proofs.Laws.{or-true, sum-next}
 use Rattle.copies.specs.Tables.{Copies, seriesAt, place, isOpen, isUp, kind, value}
 use Rattle.copies.specs.Steps.{isBeyond}
 use Rattle.copies.specs.Calls.{read, badCopy, beyond}
-
--- a test that holds, last
-or-yes : (a : Bool) → (a or true) ≡ true
-unfolding _or_
-or-yes true = refl
-or-yes false = refl
 
 module _ (size : ℕ) (column : List ℕ) (bad : Bool) (at : ℕ) where
   -- the column is short
@@ -31,7 +25,7 @@ module _ (size : ℕ) (column : List ℕ) (bad : Bool) (at : ℕ) where
   -- the place is none of the table's
   pub read-bad : bad ≡ true → 0 ≡ read size column bad at
   unfolding read
-  read-bad e = rw (e, or-yes)
+  read-bad e = rw (e, or-true)
 
   -- the entry
   pub read-at : size ≤ length column → bad ≡ false → getD column at 0 ≡ read size column bad at

@@ -1,4 +1,4 @@
--- What the test `fits` says of a job's draws, and that it holds in whole tables.
+-- What the test `fits` says of a job's draws, and that it holds in whole tables; and that READ's value is one that there is.
 -- Assumes nothing.
 use Prim.Native.Nat.{ℕ, _+_, _-_, _≤_, _<_}
 use native.Mathlib.Decide.{ℕ-discrete}
@@ -9,20 +9,20 @@ use mathlib.Core.Bool.{true, false}
 use mathlib.Core.List.{List}
 use lib.Dec.{leb, eqb}
 use lib.ListN.{getD, length}
-use borrow.Author.Tests.{leb-true, le-leb, le-ltb, not-true}
+use borrow.Author.Tests.{eqb-true, leb-true, le-leb, le-ltb, not-true}
 use Rattle.words.specs.Numbers.{stationCount, seriesCount, lockCount, placeCount, greatestSerial, share, exclusive}
 use Rattle.words.specs.Tests.{non, _and_, _or_}
-use Rattle.words.proofs.Laws.{both-true, true-all}
+use Rattle.words.proofs.Laws.{both-true, true-all, least-true}
 use Rattle.words.proofs.Guards.{parts}
 use Rattle.words.proofs.Reflects.{Reflects, reflects-self, reflects-eq, reflects-not, reflects-and, reflects-unless}
-use Rattle.copies.specs.Tables.{Copies, place, value}
+use Rattle.copies.specs.Tables.{Copies, seriesAt, place, value}
 use Rattle.copies.specs.Calls.{badCopy, beyond}
 use Rattle.copies.proofs.Guards.{good-copy}
 use Rattle.copies.specs.Facts.{CopiesWhole}
 use Rattle.copies.proofs.Reading.{read-at, copy-good}
 use Rattle.copies.proofs.Long.{Long}
 use Rattle.jobs.specs.declared.Job.{Job}
-use Rattle.jobs.specs.Job.{lockAt, isUsed}
+use Rattle.jobs.specs.Job.{lockAt, isUsed, locksHere, locksSeries, lockPlace, lockOn}
 use Rattle.jobs.specs.Whole.{W4differs}
 use Rattle.jobs.specs.Slots.{jobAt}
 use Rattle.jobs.specs.Draws.{entryThere, drawFits, fits}
@@ -92,6 +92,27 @@ module _ (t : Copies) (bs : List Job) (j : ℕ) (long : Long t) (below : CopiesW
   abbrev here : Job
   here = jobAt bs j
 
+  -- what a used place has drawn comes, with its copy's value, to no more than the greatest value that there is: only an exclusive lock
+  -- has drawn, within its series
+  lock-sum : (i : ℕ) → i < lockCount → Used here i → value (lockedSeries t here i) (here .station) + lockAt here i .drawn ≤ greatestSerial + 1
+  lock-sum i l used =
+      let own = whole .opened opened .lock i l used in
+      let series = below .opened (lockAt here i .series) (whole .range .ofLock i l .ofSeries) (own .opened) in
+      let last = series .bounds .1 in
+      let within = series .w1 (here .station) (whole .range .ofStation) .copyValue .1 in
+      let few = whole .range .ofLock i l .ofMode in
+      dite (ℕ-discrete (lockAt here i .mode) share) (λ e. omega (arith, own .noDraw e))
+      (λ other. let some : lockAt here i .mode ≡ exclusive = omega (arith, used, other) in omega (arith, own .within some))
+
+  -- so READ's value is one that there is
+  pub read-sum : (s : ℕ) → locksSeries here s ≡ true → value (seriesAt t s) (here .station) + lockOn here s .drawn ≤ greatestSerial + 1
+  unfolding locksSeries lockPlace
+  read-sum s e =
+      let least = least-true lockCount (locksHere here s) e in
+      let two = both-true _ _ (least .1) in
+      let same = eqb-true (lockOn here s .series) s (two .1) in
+      rw same at (lock-sum (lockPlace here s) (least .0) (used-reflects here (lockPlace here s) .0 (two .0)))
+
   module _ (i : ℕ) (l : i < lockCount) (drawn : lockAt here i .drawn ≡ 0 → ⊥) where
     -- a place with a draw is used
     used : Used here i
@@ -111,9 +132,7 @@ module _ (t : Copies) (bs : List Job) (j : ℕ) (long : Long t) (below : CopiesW
     drawable : Drawable (t .lasts) (t .values) here i
     drawable =
         let s = whole .range .ofLock i l .ofSeries in
-        let within = own .within locked in
-        let last = below .opened (lockAt here i .series) s (own .opened) .bounds .1 in
-        let sum : value (lockedSeries t here i) (here .station) + lockAt here i .drawn ≤ greatestSerial + 1 = omega arith in (
+        let within = own .within locked in (
           (
             record {
               longLasts = long .lasts;
@@ -121,7 +140,7 @@ module _ (t : Copies) (bs : List Job) (j : ℕ) (long : Long t) (below : CopiesW
               series = s;
               station = whole .range .ofStation;
               within = within;
-              small = sum;
+              small = lock-sum i l used;
             },
             used-reflects here i .1 used,
           ),

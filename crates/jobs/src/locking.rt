@@ -3,7 +3,7 @@ ghost use mathlib.Core.Path.{_≡_};
 ghost use mathlib.Core.List.{List};
 ghost use Prim.Native.Nat.{ℕ, _<_, _≤_};
 ghost use lib.ListN.{length};
-ghost use Rattle.words.specs.Numbers.{stationCount, seriesCount, jobCount, placeCount};
+ghost use Rattle.words.specs.Numbers.{seriesCount, jobCount, placeCount};
 ghost use Rattle.copies.specs.Tables.{tables};
 ghost use Rattle.jobs.specs.Calls.{begin, lockIn, lockx, locks, abort};
 use crate::Job;

@@ -2,3 +2,11 @@ pub mod Walked
 pub mod Computes
 pub mod Edges
 pub mod Damage
+pub mod Checked
+pub mod Judging
+pub mod Ranges
+pub mod Admits
+pub mod Keeps
+pub mod Untouched
+pub mod Sparing
+pub mod FourStay

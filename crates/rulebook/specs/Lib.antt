@@ -7,3 +7,4 @@ pub mod Around
 pub mod Run
 pub mod Edges
 pub mod Damage
+pub mod Keeps

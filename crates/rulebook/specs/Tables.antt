@@ -12,13 +12,17 @@ pub record Plant : Type 0 where
   pub copies : Copies
   pub jobs : List Job
 
+-- both as one value
+abbrev pub plant : Copies → List Job → Plant
+plant t bs = record { copies = t; jobs = bs }
+
 -- the plant with other tables of the lower layer
 abbrev pub withCopies : Plant → Copies → Plant
-withCopies p t = record { copies = t; jobs = p .jobs }
+withCopies p t = plant t (p .jobs)
 
 -- the plant with other job slots
 abbrev pub withJobs : Plant → List Job → Plant
-withJobs p bs = record { copies = p .copies; jobs = bs }
+withJobs p bs = plant (p .copies) bs
 
 -- refusal 1, of the tables: one has fewer entries than its stated size
 unfoldable pub shortTables : Plant → Bool

@@ -1,10 +1,14 @@
 -- "When tables are whole" in 01: W1 to W5, each from the shares of the two layers.
 -- Assumes nothing.
-use mathlib.Core.Bool.{Bool}
-use Rattle.words.specs.Tests.{_and_}
+use mathlib.Core.Bool.{Bool, cond}
+use Rattle.words.specs.declared.Found.{Found}
+use Rattle.words.specs.declared.Found.the-variants.{Short}
+use Rattle.words.specs.Tests.{_and_, _orElse_}
 use Rattle.copies.specs.Whole.{W1copies, W2copies, W3copies, W5copies}
+use Rattle.copies.specs.FirstBroken.{firstBroken, foundBy}
 use Rattle.jobs.specs.Whole.{W1jobs, W4jobs, W5jobs}
-use Rattle.rulebook.specs.Tables.{Plant}
+use Rattle.jobs.specs.FirstBroken.{firstBrokenJob}
+use Rattle.rulebook.specs.Tables.{Plant, shortTables}
 
 -- W1. every number is in its range; a Release goes to another station and has been sent
 unfoldable pub W1 : Plant → Bool
@@ -29,3 +33,8 @@ W5 p = W5copies (p .copies) and W5jobs (p .jobs)
 -- tables are whole when W1 to W5 all hold
 unfoldable pub whole : Plant → Bool
 whole p = W1 p and W2 p and W3 p and W4 p and W5 p
+
+-- what the check finds in tables of any size: one is short, or the rule that the walk finds broken first, or they are whole
+unfoldable pub check : Plant → Found
+check p =
+    cond (shortTables p) Short (foundBy (firstBroken (p .copies) orElse firstBrokenJob (p .copies) (p .jobs)))

@@ -26,6 +26,24 @@ unfolding _and_
 and-true true = refl
 and-true false = refl
 
+-- `or` in either order of its brackets
+pub or-assoc : (a b c : Bool) → ((a or b) or c) ≡ (a or (b or c))
+unfolding _or_
+or-assoc true b c = refl
+or-assoc false b c = refl
+
+-- `or` with what fails
+pub or-false : (a : Bool) → (a or false) ≡ a
+unfolding _or_
+or-false true = refl
+or-false false = refl
+
+-- and with what holds
+pub or-true : (a : Bool) → (a or true) ≡ true
+unfolding _or_
+or-true true = refl
+or-true false = refl
+
 -- an `and` that holds, in its parts
 pub both-true : (a b : Bool) → (a and b) ≡ true → (a ≡ true) × (b ≡ true)
 unfolding _and_
@@ -87,6 +105,12 @@ some-next f i j a r p q e = rw (e, add-one, p, q)
 pub some-end : (n : ℕ) (f : ℕ → Bool) (i : ℕ) (a : Bool) → i ≤ n → n ≤ i → a ≡ someBelow i f → a ≡ someBelow n f
 some-end n f i a p q e = let same : n ≡ i = omega arith in rw same e
 
+-- a test at some number below n + 1 holds at 0 or at some later one
+pub some-front : (n : ℕ) (f : ℕ → Bool) → someBelow (suc n) f ≡ (f 0 or someBelow n (λ i. f (suc i)))
+unfolding someBelow _or_
+some-front zero f = sym (or-false (f 0))
+some-front (suc n) f = ap (λ (a : Bool). a or f (suc n)) (some-front n f) ∙ or-assoc (f 0) (someBelow n (λ i. f (suc i))) (f (suc n))
+
 -- ---- the sum
 pub sum-none : (f : ℕ → ℕ) → 0 ≡ sumBelow 0 f
 unfolding sumBelow
@@ -98,6 +122,12 @@ sum-next f i j a r p q e = rw (e, add-one, p, q)
 
 pub sum-end : (n : ℕ) (f : ℕ → ℕ) (i a : ℕ) → i ≤ n → n ≤ i → a ≡ sumBelow i f → a ≡ sumBelow n f
 sum-end n f i a p q e = let same : n ≡ i = omega arith in rw same e
+
+-- the sum to n + 1 is that of the later ones, and the first
+pub sum-front : (n : ℕ) (f : ℕ → ℕ) → sumBelow (suc n) f ≡ sumBelow n (λ i. f (suc i)) + f 0
+unfolding sumBelow
+sum-front zero f = refl
+sum-front (suc n) f = rw (sum-front n f) (omega arith)
 
 -- ---- the first that is broken
 pub first-none : (f : ℕ → ℕ) → firstBelow 0 f ≡ 0
@@ -159,18 +189,27 @@ unfolding someBelow _or_
 true-some zero f i l e = absurd (not-suc-le-zero l)
 true-some (suc n) f i l e = ⊎-elim (λ q. here q) (λ lt. rw (true-some n f i lt e)) (eq-or-lt-of-le (le-of-suc-le-suc l))
   where
-    last : (a : Bool) → (a || true) ≡ true
-    last true = refl
-    last false = refl
-
     here : i ≡ n → (someBelow n f || f n) ≡ true
-    here q = rw (← q, e) (last (someBelow i f))
+    here q = rw (← q, e) (or-true (someBelow i f))
 
 -- one number more is least, or one below it is
 least-step : (n : ℕ) (f : ℕ → Bool) (a : Bool) → (a ≡ true → (leastBelow n f < n) × (f (leastBelow n f) ≡ true)) → a ≡ someBelow n f → (a or f n) ≡ true → (leastBelow (suc n) f < suc n) × (f (leastBelow (suc n) f) ≡ true)
 unfolding leastBelow _or_
 least-step n f true low p e = rw (← p) (let l : leastBelow n f < n = low refl .0 in omega arith, low refl .1)
 least-step n f false low p e = rw (← p, e) (omega arith, e)
+
+-- the least below n + 1 is 0, or one more than the least of the later ones
+pub least-front : (n : ℕ) (f : ℕ → Bool) → leastBelow (suc n) f ≡ cond (f 0) 0 (suc (leastBelow n (λ i. f (suc i))))
+unfolding someBelow leastBelow _or_
+least-front zero f = refl
+least-front (suc n) f =
+    rw (some-front n f, least-front n f) (last (f 0) (someBelow n (λ i. f (suc i))) (f (suc n)) (leastBelow n (λ i. f (suc i))))
+  where
+    last : (a b c : Bool) (l : ℕ) → cond (a or b) (cond a 0 (suc l)) (cond c (suc n) (suc (suc n))) ≡ cond a 0 (suc (cond b l (cond c n (suc n))))
+    last true b c l = refl
+    last false true c l = refl
+    last false false true l = refl
+    last false false false l = refl
 
 -- where some holds, the least is one of them
 pub least-true : (n : ℕ) (f : ℕ → Bool) → someBelow n f ≡ true → (leastBelow n f < n) × (f (leastBelow n f) ≡ true)

@@ -1,0 +1,7 @@
+pub mod BadEvents
+pub mod Slots
+pub mod Judged
+pub mod CopyEvents
+pub mod JobEvents
+pub mod Unchecked
+pub mod Ways

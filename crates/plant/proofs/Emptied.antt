@@ -1,0 +1,88 @@
+-- Tables emptied column by column, and the slots of zeros. Assumes nothing.
+use Prim.Native.Nat.{ℕ, zero, suc, _+_, _≤_}
+use native.Mathlib.Nat.{zero-add, eq-or-lt-of-le, le-of-suc-le-suc}
+use native.Mathlib.Numerals.{add-one}
+use native.Mathlib.Omega.{arith}
+use mathlib.Core.Path.{_≡_, refl, sym, ap, _∙_}
+use mathlib.Core.Logic.{⊎-elim}
+use mathlib.Core.Bool.{true, false}
+use mathlib.Core.List.{List, append-nil}
+use lib.Dec.{ltb}
+use lib.ListN.{set, length, replicate}
+use lib.Seq.{sets, sets-eq, set-out, length-sets, drop-length}
+use borrow.Author.Tests.{le-ltb}
+use Rattle.words.specs.declared.Answer.the-variants.{Done, Short}
+use Rattle.words.specs.Numbers.{stationCount, seriesCount, jobCount, placeCount, receivedCount}
+use Rattle.words.specs.Tests.{_or_}
+use Rattle.copies.specs.Tables.{Copies, tables, shortCopies}
+use Rattle.copies.proofs.Filled.{row-next}
+use Rattle.jobs.specs.declared.Job.{Job}
+use Rattle.jobs.specs.Job.{noJob}
+use Rattle.jobs.specs.Slots.{shortJobs}
+use Rattle.jobs.specs.Calls.{stepped}
+use Rattle.rulebook.specs.Tables.{Plant, plant, shortTables}
+use Rattle.rulebook.specs.Steps.{done}
+use Rattle.rulebook.specs.Around.{emptied, emptyOf}
+use Rattle.plant.specs.Calls.{made}
+
+-- ---- a column filled from its first entry on
+-- one entry more
+pub fill-next : (l : List ℕ) (n j v : ℕ) (x : List ℕ) → x ≡ sets l 0 (replicate n v) → j ≡ n + 1 → set x n v ≡ sets l 0 (replicate j v)
+fill-next l n j v x p e = rw zero-add at (row-next l 0 n j v x p e)
+
+-- what is written past the end is nowhere
+fill-past : (k : ℕ) (l : List ℕ) (n v : ℕ) → length l ≤ n → n ≤ k → sets l 0 (replicate n v) ≡ sets l 0 (replicate k v)
+fill-past zero l n v past le = let none : n ≡ 0 = omega arith in rw none
+fill-past (suc k) l n v past le =
+    ⊎-elim (λ e. rw e)
+    (λ lt. fill-past k l n v past (le-of-suc-le-suc lt) ∙ sym (set-out _ k v (out (le-of-suc-le-suc lt))) ∙ fill-next l k (suc k) v _ refl (sym (add-one k)))
+    (eq-or-lt-of-le le)
+  where
+    out : n ≤ k → length (sets l 0 (replicate k v)) ≤ k
+    out h = rw (length-sets l 0 (replicate k v)) (omega arith)
+
+-- the column ends before so many entries are written
+pub fill-stop : (k : ℕ) (l : List ℕ) (n v : ℕ) (x : List ℕ) → length x ≤ n → length x ≡ length l → n ≤ k → x ≡ sets l 0 (replicate n v) → x ≡ sets l 0 (replicate k v)
+fill-stop k l n v x past same le e = e ∙ fill-past k l n v (omega arith) le
+
+-- ---- the slots
+-- a list written over one as long is all that is left
+all-written : {A : Type 0} (l vs : List A) → length l ≡ length vs → vs ≡ sets l 0 vs
+all-written l vs e =
+    let all : sets l 0 vs ≡ vs = rw (sets-eq vs l 0 (omega arith), zero-add, ← e, drop-length) (append-nil vs) in
+    sym all
+
+-- ---- the plant
+-- the same columns and slots are the same plant
+same-plant : {fs fs′ ls ls′ ks ks′ vs vs′ ns ns′ rt rt′ rk rk′ rv rv′ gs gs′ us us′ : List ℕ} {bs bs′ : List Job}
+    → fs ≡ fs′ → ls ≡ ls′ → ks ≡ ks′ → vs ≡ vs′ → ns ≡ ns′ → rt ≡ rt′ → rk ≡ rk′ → rv ≡ rv′ → gs ≡ gs′ → us ≡ us′ → bs ≡ bs′
+    → plant (tables fs ls ks vs ns rt rk rv gs us) bs ≡ plant (tables fs′ ls′ ks′ vs′ ns′ rt′ rk′ rv′ gs′ us′) bs′
+same-plant fs ls ks vs ns rt rk rv gs us bs = rw (fs, ls, ks, vs, ns, rt, rk, rv, gs, us, bs)
+
+module _ (t : Copies) (bs : List Job) where
+  -- SHORT: a column has fewer entries than its stated size
+  pub made-short : shortCopies t ≡ true → made (stepped Short bs) t ≡ emptyOf (plant t bs)
+  unfolding emptyOf shortTables _or_
+  made-short e = rw e
+
+  -- none has, and there are sixteen slots: the plant is emptied
+  made-done : (p : Plant) → shortCopies t ≡ false → length bs ≡ jobCount → p ≡ emptied (plant t bs) → done 0 p ≡ emptyOf (plant t bs)
+  unfolding emptyOf shortTables shortJobs _or_
+  made-done p long sixteen e =
+      let all : ltb (length bs) jobCount ≡ false = le-ltb (length bs) jobCount (omega arith) in
+      rw (long, all, e)
+
+  -- each column is filled, and each slot is zeros
+  pub made-empty : {fs ls ks vs ns rt rk rv gs us : List ℕ} {b : Job}
+      → shortCopies t ≡ false → length bs ≡ jobCount
+      → fs ≡ sets (t .firsts) 0 (replicate seriesCount 0) → ls ≡ sets (t .lasts) 0 (replicate seriesCount 0)
+      → ks ≡ sets (t .kinds) 0 (replicate placeCount 0) → vs ≡ sets (t .values) 0 (replicate placeCount 0)
+      → ns ≡ sets (t .sent) 0 (replicate placeCount 0) → rt ≡ sets (t .relTo) 0 (replicate placeCount 0)
+      → rk ≡ sets (t .relKind) 0 (replicate placeCount 0) → rv ≡ sets (t .relValue) 0 (replicate placeCount 0)
+      → gs ≡ sets (t .received) 0 (replicate receivedCount 0) → us ≡ sets (t .up) 0 (replicate stationCount 1)
+      → b ≡ noJob
+      → made (stepped (Done 0) (replicate jobCount b)) (tables fs ls ks vs ns rt rk rv gs us) ≡ emptyOf (plant t bs)
+  unfolding emptied
+  made-empty long sixteen fs ls ks vs ns rt rk rv gs us none =
+      let slots = ap (λ (b : Job). replicate jobCount b) none ∙ all-written bs (replicate jobCount noJob) sixteen in
+      made-done _ long sixteen (same-plant fs ls ks vs ns rt rk rv gs us slots)
