@@ -63,22 +63,22 @@ module _ {t : Copies} (l : Long t) where
 
 -- ---- nor is refusal 3
 -- of a transfer
-good-transfer : (s from to : ℕ) → s < seriesCount → from < stationCount → to < stationCount → eqb from to ≡ false → badTransfer s from to ≡ false
+transfer-good : (s from to : ℕ) → s < seriesCount → from < stationCount → to < stationCount → eqb from to ≡ false → badTransfer s from to ≡ false
 unfolding badTransfer _or_
-good-transfer s from to hs hf ht e = rw (lt-leb _ _ hs, lt-leb _ _ hf, lt-leb _ _ ht, e)
+transfer-good s from to hs hf ht e = rw (lt-leb _ _ hs, lt-leb _ _ hf, lt-leb _ _ ht, e)
 
 -- of a message
-good-message : (s from to number : ℕ) → badTransfer s from to ≡ false → (1 ≤ number) × (number ≤ greatestSent) → badMessage s from to number ≡ false
+message-good : (s from to number : ℕ) → badTransfer s from to ≡ false → (1 ≤ number) × (number ≤ greatestSent) → badMessage s from to number ≡ false
 unfolding badMessage _or_
-good-message s from to number e h =
+message-good s from to number e h =
     let some : number ≡ 0 → ⊥ = λ z. omega (arith, h .0) in
     rw (e, ne-eqb _ _ some, le-ltb _ _ (h .1))
 
 -- of an OPEN
-good-opening : (s first last n : ℕ) → s < seriesCount → n < stationCount → 1 ≤ first → ltb last first ≡ false → last ≤ greatestSerial
+opening-good : (s first last n : ℕ) → s < seriesCount → n < stationCount → 1 ≤ first → ltb last first ≡ false → last ≤ greatestSerial
     → badOpening s first last n ≡ false
 unfolding badOpening _or_
-good-opening s first last n hs hn hf e hl =
+opening-good s first last n hs hn hf e hl =
     let some : first ≡ 0 → ⊥ = λ z. omega arith in
     rw (copy-good s n hs hn, ne-eqb _ _ some, e, le-ltb _ _ hl)
 
@@ -95,7 +95,7 @@ module _ (p : Plant) (out : List ℕ) where
   unfolding judges openSeries openIn doOPEN
   whole-OPEN a b c d w =
       pass lower Short _ _ _ (long-opener (w .long))
-      (pass lower BadEvent _ _ _ (good-opening a b c d (series-in w refl) (station-in w refl) (first-in w refl .0) (w .bounds) (last-in w refl .1))
+      (pass lower BadEvent _ _ _ (opening-good a b c d (series-in w refl) (station-in w refl) (first-in w refl .0) (w .bounds) (last-in w refl .1))
       (same lower Taken _ _ _
       (λ _. same lower Down _ _ _
       (λ _. refl))))
@@ -106,7 +106,7 @@ module _ (p : Plant) (out : List ℕ) where
   unfolding judges send sendIn doSEND
   whole-SEND a b c d w =
       pass lower Short _ _ _ (long-sender (w .long))
-      (pass lower BadEvent _ _ _ (good-transfer a b c (series-in w refl) (from-in w refl) (to-in w refl) (w .apart))
+      (pass lower BadEvent _ _ _ (transfer-good a b c (series-in w refl) (from-in w refl) (to-in w refl) (w .apart))
       (alike lower None _ _ _ _ (sym (or-false _))
       (λ _. same lower Down _ _ _
       (λ _. same lower Copy _ _ _
@@ -134,7 +134,7 @@ module _ (p : Plant) (out : List ℕ) where
   unfolding judges sendShare shareIn doSHARE
   whole-SHARE a b c d w =
       pass lower Short _ _ _ (long-sender (w .long))
-      (pass lower BadEvent _ _ _ (good-transfer a b c (series-in w refl) (from-in w refl) (to-in w refl) (w .apart))
+      (pass lower BadEvent _ _ _ (transfer-good a b c (series-in w refl) (from-in w refl) (to-in w refl) (w .apart))
       (alike lower None _ _ _ _ (sym (or-false _))
       (λ _. same lower Down _ _ _
       (λ _. same lower Copy _ _ _
@@ -176,7 +176,7 @@ module _ (p : Plant) (out : List ℕ) where
   unfolding judges grant grantIn doGRANT
   whole-GRANT a b c d w =
       pass lower Short _ _ _ (long-receiver (w .long))
-      (pass lower BadEvent _ _ _ (good-message a b c d (good-transfer a b c (series-in w refl) (from-in w refl) (to-in w refl) (w .apart)) (number-in w refl))
+      (pass lower BadEvent _ _ _ (message-good a b c d (transfer-good a b c (series-in w refl) (from-in w refl) (to-in w refl) (w .apart)) (number-in w refl))
       (alike lower None _ _ _ _ (sym (or-false _))
       (λ _. same lower Down _ _ _
       (λ _. same lower NoMessage _ _ _
@@ -188,7 +188,7 @@ module _ (p : Plant) (out : List ℕ) where
   unfolding judges ack ackIn doACK
   whole-ACK a b c d w =
       pass lower Short _ _ _ (long-source (w .long))
-      (pass lower BadEvent _ _ _ (good-message a b c d (good-transfer a b c (series-in w refl) (from-in w refl) (to-in w refl) (w .apart)) (number-in w refl))
+      (pass lower BadEvent _ _ _ (message-good a b c d (transfer-good a b c (series-in w refl) (from-in w refl) (to-in w refl) (w .apart)) (number-in w refl))
       (alike lower None _ _ _ _ (sym (or-false _))
       (λ _. same lower Down _ _ _
       (λ _. same lower NoMessage _ _ _

@@ -36,14 +36,14 @@ use Rattle.events.proofs.Judged.{Seen, alike, same, pass, judges, after
 
 -- ---- refusals 1 and 3 of the calls are not given
 -- of BEGIN
-good-begin : {j n : ℕ} → j < jobCount → n < stationCount → (leb jobCount j or leb stationCount n) ≡ false
+begin-good : {j n : ℕ} → j < jobCount → n < stationCount → (leb jobCount j or leb stationCount n) ≡ false
 unfolding _or_
-good-begin hj hn = rw (lt-leb _ _ hj, lt-leb _ _ hn)
+begin-good hj hn = rw (lt-leb _ _ hj, lt-leb _ _ hn)
 
 -- of LOCKX, LOCKS and READ
-good-lock : {j s : ℕ} → j < jobCount → s < seriesCount → (leb jobCount j or leb seriesCount s) ≡ false
+lock-good : {j s : ℕ} → j < jobCount → s < seriesCount → (leb jobCount j or leb seriesCount s) ≡ false
 unfolding _or_
-good-lock hj hs = rw (lt-leb _ _ hj, lt-leb _ _ hs)
+lock-good hj hs = rw (lt-leb _ _ hj, lt-leb _ _ hs)
 
 -- of LOCKX and LOCKS
 long-lock : {t : Copies} → Long t → (lacks seriesCount (t .firsts) or lacks placeCount (t .kinds)) ≡ false
@@ -56,10 +56,10 @@ unfolding _or_
 long-draw l = rw (le-ltb _ _ (l .firsts), le-ltb _ _ (l .lasts), le-ltb _ _ (l .values))
 
 -- and BAD EVENT
-good-draw : {j s count : ℕ} → j < jobCount → s < seriesCount → (1 ≤ count) × (count ≤ greatestSerial)
+draw-good : {j s count : ℕ} → j < jobCount → s < seriesCount → (1 ≤ count) × (count ≤ greatestSerial)
     → (leb jobCount j or leb seriesCount s or eqb count 0 or ltb greatestSerial count) ≡ false
 unfolding _or_
-good-draw {j} {s} {count} hj hs h =
+draw-good {j} {s} {count} hj hs h =
     let some : count ≡ 0 → ⊥ = λ z. omega (arith, h .0) in
     rw (lt-leb _ _ hj, lt-leb _ _ hs, ne-eqb _ _ some, le-ltb _ _ (h .1))
 
@@ -140,7 +140,7 @@ module _ (p : Plant) (out : List ℕ) where
   unfolding judges jobs.begin doBEGIN
   whole-BEGIN a b c d w =
       pass slots Short _ _ _ (le-ltb _ _ (w .long .up))
-      (pass slots BadEvent _ _ _ (good-begin (job-in w refl) (station-in w refl))
+      (pass slots BadEvent _ _ _ (begin-good (job-in w refl) (station-in w refl))
       (same slots Taken _ _ _
       (λ _. same slots Down _ _ _
       (λ _. refl))))
@@ -150,7 +150,7 @@ module _ (p : Plant) (out : List ℕ) where
   unfolding judges jobs.lockx jobs.lockIn doLOCKX
   whole-LOCKX a b c d w =
       pass slots Short _ _ _ (long-lock (w .long))
-      (pass slots BadEvent _ _ _ (good-lock (job-in w refl) (series-in w refl))
+      (pass slots BadEvent _ _ _ (lock-good (job-in w refl) (series-in w refl))
       (same slots None _ _ _
       (λ _. same slots Held _ _ _
       (λ _. same slots Full _ _ _
@@ -163,7 +163,7 @@ module _ (p : Plant) (out : List ℕ) where
   unfolding judges jobs.locks jobs.lockIn doLOCKS
   whole-LOCKS a b c d w =
       pass slots Short _ _ _ (long-lock (w .long))
-      (pass slots BadEvent _ _ _ (good-lock (job-in w refl) (series-in w refl))
+      (pass slots BadEvent _ _ _ (lock-good (job-in w refl) (series-in w refl))
       (same slots None _ _ _
       (λ _. same slots Held _ _ _
       (λ _. same slots Full _ _ _
@@ -175,7 +175,7 @@ module _ (p : Plant) (out : List ℕ) where
   unfolding judges jobs.draw jobs.drawIn doDRAW
   whole-DRAW a b c d w =
       pass slots Short _ _ _ (long-draw (w .long))
-      (pass slots BadEvent _ _ _ (good-draw (job-in w refl) (series-in w refl) (count-in w refl))
+      (pass slots BadEvent _ _ _ (draw-good (job-in w refl) (series-in w refl) (count-in w refl))
       (same slots None _ _ _
       (λ _. same slots NoLock _ _ _
       (λ _. same slots Drawn _ _ _
@@ -188,7 +188,7 @@ module _ (p : Plant) (out : List ℕ) where
   whole-READ a b c d w =
       let there = same-value w a b (job-in w refl) (series-in w refl) in
       pass answers Short _ _ _ (long-read (w .long))
-      (pass answers BadEvent _ _ _ (good-lock (job-in w refl) (series-in w refl))
+      (pass answers BadEvent _ _ _ (lock-good (job-in w refl) (series-in w refl))
       (same answers None _ _ _
       (λ opened. same answers NoLock _ _ _
       (λ locked. pass answers NotWhole _ _ _ (read-fits w a b (job-in w refl) (series-in w refl) (neither (non (isOpen (seriesAt (p .copies) b))) _ opened .1) locked)

@@ -47,9 +47,9 @@ long-for-jobs t e =
     (le-ltb _ stationCount (l .up))
 
 -- refusal 1
-pub check-short : (t : Copies) (bs : List Job) (found : Found) → found ≡ checkCopies t → found ≡ Short → Short ≡ check (plant t bs)
+pub finds-short : (t : Copies) (bs : List Job) (found : Found) → found ≡ checkCopies t → found ≡ Short → Short ≡ check (plant t bs)
 unfolding checkCopies check shortTables
-check-short t bs found e h = short-first (shortCopies t) (shortJobs bs) _ _ (sym h ∙ e)
+finds-short t bs found e h = short-first (shortCopies t) (shortJobs bs) _ _ (sym h ∙ e)
 
 module _ (t : Copies) (bs : List Job) (sixteen : length bs ≡ jobCount) where
   -- the slots stand in an array of sixteen
@@ -58,13 +58,13 @@ module _ (t : Copies) (bs : List Job) (sixteen : length bs ≡ jobCount) where
   slots-there = rw sixteen
 
   -- a rule that the lower layer's tables break
-  pub check-broken : (found : Found) (k : ℕ) → found ≡ checkCopies t → found ≡ Broken k → Broken k ≡ check (plant t bs)
+  pub finds-broken : (found : Found) (k : ℕ) → found ≡ checkCopies t → found ≡ Broken k → Broken k ≡ check (plant t bs)
   unfolding checkCopies check shortTables
-  check-broken found k e h = rw slots-there (broken-first (shortCopies t) _ _ k (sym h ∙ e))
+  finds-broken found k e h = rw slots-there (broken-first (shortCopies t) _ _ k (sym h ∙ e))
 
   -- none: the slots' walk answers
-  pub check-jobs : (found r : Found) → found ≡ checkCopies t → found ≡ Whole → r ≡ checkJobs t bs → r ≡ check (plant t bs)
+  pub finds-of-jobs : (found r : Found) → found ≡ checkCopies t → found ≡ Whole → r ≡ checkJobs t bs → r ≡ check (plant t bs)
   unfolding checkCopies checkJobs check shortTables
-  check-jobs found r e h j =
+  finds-of-jobs found r e h j =
       let fine = long-for-jobs t (found-whole (shortCopies t) (firstBroken t) (sym e ∙ h) .0) in
       rw slots-there (whole-first (shortCopies t) (firstBroken t) (firstBrokenJob t bs) r (sym h ∙ e) (rw fine at j))

@@ -23,7 +23,7 @@ use Rattle.jobs.specs.Calls.{stepped}
 use Rattle.rulebook.specs.Tables.{Plant, plant, shortTables}
 use Rattle.rulebook.specs.Steps.{done}
 use Rattle.rulebook.specs.Around.{emptied, emptyOf}
-use Rattle.plant.specs.Calls.{made}
+use Rattle.plant.specs.Calls.{made, filled}
 
 -- ---- a column filled from its first entry on
 -- one entry more
@@ -75,14 +75,14 @@ module _ (t : Copies) (bs : List Job) where
   -- each column is filled, and each slot is zeros
   pub made-empty : {fs ls ks vs ns rt rk rv gs us : List ℕ} {b : Job}
       → shortCopies t ≡ false → length bs ≡ jobCount
-      → fs ≡ sets (t .firsts) 0 (replicate seriesCount 0) → ls ≡ sets (t .lasts) 0 (replicate seriesCount 0)
-      → ks ≡ sets (t .kinds) 0 (replicate placeCount 0) → vs ≡ sets (t .values) 0 (replicate placeCount 0)
-      → ns ≡ sets (t .sent) 0 (replicate placeCount 0) → rt ≡ sets (t .relTo) 0 (replicate placeCount 0)
-      → rk ≡ sets (t .relKind) 0 (replicate placeCount 0) → rv ≡ sets (t .relValue) 0 (replicate placeCount 0)
-      → gs ≡ sets (t .received) 0 (replicate receivedCount 0) → us ≡ sets (t .up) 0 (replicate stationCount 1)
+      → fs ≡ filled seriesCount 0 (t .firsts) → ls ≡ filled seriesCount 0 (t .lasts)
+      → ks ≡ filled placeCount 0 (t .kinds) → vs ≡ filled placeCount 0 (t .values)
+      → ns ≡ filled placeCount 0 (t .sent) → rt ≡ filled placeCount 0 (t .relTo)
+      → rk ≡ filled placeCount 0 (t .relKind) → rv ≡ filled placeCount 0 (t .relValue)
+      → gs ≡ filled receivedCount 0 (t .received) → us ≡ filled stationCount 1 (t .up)
       → b ≡ noJob
       → made (stepped (Done 0) (replicate jobCount b)) (tables fs ls ks vs ns rt rk rv gs us) ≡ emptyOf (plant t bs)
-  unfolding emptied
+  unfolding emptied filled
   made-empty long sixteen fs ls ks vs ns rt rk rv gs us none =
       let slots = ap (λ (b : Job). replicate jobCount b) none ∙ all-written bs (replicate jobCount noJob) sixteen in
       made-done _ long sixteen (same-plant fs ls ks vs ns rt rk rv gs us slots)

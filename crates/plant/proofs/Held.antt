@@ -1,11 +1,11 @@
 -- The holders of a series: a law for each way out of `holders_in` and of `holders`. Assumes nothing.
-use Prim.Native.Nat.{ℕ, _≤_, _<_}
+use Prim.Native.Nat.{ℕ, _≤_}
 use mathlib.Core.Path.{_≡_, sym, _∙_}
 use mathlib.Core.Bool.{Bool, true, false, not}
 use mathlib.Core.List.{List, []}
 use lib.Dec.{eqb, leb}
 use lib.ListN.{length}
-use borrow.Author.Tests.{le-leb, lt-leb, le-ltb}
+use borrow.Author.Tests.{leb-false, le-ltb}
 use Rattle.words.specs.declared.Answer.the-variants.{Short as SHORT, NotWhole, BadEvent, None}
 use Rattle.words.specs.declared.Found.{Found}
 use Rattle.words.specs.declared.Found.the-variants.{Short, Broken, Whole}
@@ -22,9 +22,9 @@ use Rattle.jobs.specs.declared.Job.{Job}
 use Rattle.rulebook.specs.declared.Holders.{Holders}
 use Rattle.rulebook.specs.Tables.{plant, shortTables}
 use Rattle.rulebook.specs.Whole.{check}
-use Rattle.rulebook.specs.Around.{holdersIn, noHolders, holdersOf}
+use Rattle.rulebook.specs.Around.{holdersThere, holdersIn, noHolders, holdersOf}
 use Rattle.rulebook.proofs.Checked.{check-whole, check-short, check-broken}
-use Rattle.plant.specs.Holding.{bySet, holdersThere}
+use Rattle.plant.specs.Holding.{bySet}
 use Rattle.plant.proofs.Sets.{ones-set, zeros-set}
 
 -- ---- a series of tables that are whole
@@ -33,15 +33,15 @@ set-right : (r : Series) (set : ℕ) → set ≡ holderSet r → bySet set ≡ h
 set-right r set e = rw (e, ones-set stationCount (held r), zeros-set stationCount (held r))
 
 -- refusal 3
-pub there-bad : (r : Series) (s : ℕ) (h : Holders) → seriesCount ≤ s → h ≡ noHolders BadEvent → h ≡ holdersThere r s
+pub there-bad : (r : Series) (s : ℕ) (h : Holders) → leb seriesCount s ≡ true → h ≡ noHolders BadEvent → h ≡ holdersThere r s
 unfolding holdersThere
-there-bad r s h l e = rw (le-leb _ _ l) e
+there-bad r s h l e = rw l e
 
 -- what `is_open` says of a series
 abbrev saidOpen : List ℕ → ℕ → Bool
 saidOpen firsts s = non (eqb (read seriesCount firsts (leb seriesCount s) s) 0)
 
-module _ (firsts kinds : List ℕ) (s : ℕ) (h : Holders) (o : Bool) (l : seriesCount ≤ length firsts) (small : s < seriesCount) (said : o ≡ saidOpen firsts s) where
+module _ (firsts kinds : List ℕ) (s : ℕ) (h : Holders) (o : Bool) (l : seriesCount ≤ length firsts) (small : leb seriesCount s ≡ false) (said : o ≡ saidOpen firsts s) where
   -- the series, from the columns that are asked
   abbrev there : Series
   there = seriesIn firsts [] kinds [] [] [] [] [] [] s
@@ -50,16 +50,16 @@ module _ (firsts kinds : List ℕ) (s : ℕ) (h : Holders) (o : Bool) (l : serie
   pub there-closed : not o ≡ true → h ≡ noHolders None → h ≡ holdersThere there s
   unfolding holdersThere
   there-closed flag e =
-      let shut = non-call-true o _ (read-open (tables firsts [] kinds [] [] [] [] [] [] []) s o l small said) flag in
-      rw (lt-leb _ _ small, shut) e
+      let shut = non-call-true o _ (read-open (tables firsts [] kinds [] [] [] [] [] [] []) s o l (leb-false _ _ small) said) flag in
+      rw (small, shut) e
 
   -- the set, its ones and its trailing zeros
   pub there-held : (set : ℕ) → placeCount ≤ length kinds → not o ≡ false → set ≡ holders kinds s → h ≡ bySet set → h ≡ holdersThere there s
   unfolding holdersThere holders _or_
   there-held set k flag e q =
-      let opened = non-call-false o _ (read-open (tables firsts [] kinds [] [] [] [] [] [] []) s o l small said) flag in
-      let all : set ≡ holderSet there = rw (le-ltb _ _ k, lt-leb _ _ small) at e in
-      rw (lt-leb _ _ small, opened) (q ∙ set-right there set all)
+      let opened = non-call-false o _ (read-open (tables firsts [] kinds [] [] [] [] [] [] []) s o l (leb-false _ _ small) said) flag in
+      let all : set ≡ holderSet there = rw (le-ltb _ _ k, small) at e in
+      rw (small, opened) (q ∙ set-right there set all)
 
 -- ---- all tables
 module _ (t : Copies) (bs : List Job) (found : Found) (e : found ≡ check (plant t bs)) where

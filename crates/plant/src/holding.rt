@@ -6,8 +6,8 @@ ghost use lib.ListN.{length};
 ghost use Rattle.words.specs.Numbers.{seriesCount, placeCount};
 ghost use Rattle.copies.specs.Tables.{tables, seriesIn};
 ghost use Rattle.rulebook.specs.Tables.{plant};
-ghost use Rattle.rulebook.specs.Around.{noHolders, holdersOf};
-ghost use Rattle.plant.specs.Holding.{bySet, holdersThere};
+ghost use Rattle.rulebook.specs.Around.{noHolders, holdersThere, holdersOf};
+ghost use Rattle.plant.specs.Holding.{bySet};
 use crate::whole::check;
 use copies::is_open;
 use jobs::Job;
@@ -47,10 +47,12 @@ fn holders_in(firsts: &[Serial], kinds: &[u32], series: u32) -> Holders
     requires { ⌜ (seriesCount ≤ length (now firsts)) × (placeCount ≤ length (now kinds)) ⌝ }
     ensures { λ r. ⌜ r ≡ holdersThere (seriesIn (now (firsts .entry)) [] (now (kinds .entry)) [] [] [] [] [] [] series) series ⌝ }
 {
-    if SERIES <= series as usize {
+    let missing = SERIES <= series as usize;
+    let opened = is_open(firsts, series);
+    if missing {
         return no_holders(Answer::BadEvent);
     }
-    if !is_open(firsts, series) {
+    if !opened {
         return no_holders(Answer::None);
     }
     counted(copies::holders(kinds, series))

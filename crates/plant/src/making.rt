@@ -1,11 +1,9 @@
 // An empty plant in lent tables.
 ghost use mathlib.Core.Path.{_≡_};
-ghost use lib.ListN.{replicate};
-ghost use lib.Seq.{sets};
 ghost use Rattle.copies.specs.Tables.{tables};
 ghost use Rattle.rulebook.specs.Tables.{plant};
 ghost use Rattle.rulebook.specs.Around.{emptyOf};
-ghost use Rattle.plant.specs.Calls.{made};
+ghost use Rattle.plant.specs.Calls.{made, filled};
 use jobs::Job;
 use jobs::Stepped;
 use words::Answer;
@@ -18,7 +16,7 @@ use words::Serial;
 
 // Writes a number at the first so many entries of a column, or at all where it has fewer.
 fn fill(column: &mut [u32], size: usize, number: u32)
-    ensures { λ r. ⌜ now (column .exit) ≡ sets (now (column .entry)) 0 (replicate size number) ⌝ }
+    ensures { λ r. ⌜ now (column .exit) ≡ filled size number (now (column .entry)) ⌝ }
 {
     for i in 0..size {
         if column.len() <= i {

@@ -19,7 +19,7 @@ use Rattle.rulebook.specs.Events.{GRANT, ACK}
 use Rattle.rulebook.specs.Edges.{event}
 use Rattle.rulebook.specs.Refusals.{refusals}
 use Rattle.rulebook.specs.Steps.{Effect, done, refused, doOPEN, doBEGIN, doLOCKX, doLOCKS, doDRAW, doREAD, doCOMMIT, doABORT, doSEND, doDEMOTE, doSHARE, doDROP, doPROMOTE, doCRASH, doRESTART, accepted, effect, stepOf}
-use Rattle.rulebook.specs.Around.{emptied, emptyOf, holdersIn, noHolders, holdersOf}
+use Rattle.rulebook.specs.Around.{emptied, emptyOf, holdersIn, noHolders, holdersThere, holdersOf}
 use Rattle.rulebook.specs.Keeps.{Refused, StepRefusalKeeps, EmptyRefusalKeeps, HoldersRefusalKeeps, RefusalKeeps}
 use Rattle.rulebook.proofs.Judging.{cond-cases, judged-cases, accepted-by-kind, _then_, grant-cases, ack-cases}
 
@@ -102,7 +102,7 @@ none-or false a x h = h
 
 -- where the holders are refused, all three numbers are 0
 pub holders-refusal-keeps : HoldersRefusalKeeps
-unfolding holdersOf NoneShown
+unfolding holdersOf holdersThere NoneShown
 holders-refusal-keeps p s =
     none-or (shortTables p) Short _
     (none-or (non (whole p)) NotWhole _

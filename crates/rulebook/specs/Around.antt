@@ -73,10 +73,13 @@ holdersIn r =
 abbrev pub noHolders : Answer → Holders
 noHolders a = record { answer = a; set = 0; count = 0; lowest = 0 }
 
--- refusals 1, 2, 3 and 5, with all three 0
+-- refusals 3 and 5 of series s, which keeps r
+unfoldable pub holdersThere : Series → ℕ → Holders
+holdersThere r s =
+    cond (leb seriesCount s) (noHolders BadEvent) (cond (non (isOpen r)) (noHolders None) (holdersIn r))
+
+-- refusals 1 and 2, and then those
 unfoldable pub holdersOf : Plant → ℕ → Holders
 holdersOf p s =
     cond (shortTables p) (noHolders Short)
-    (cond (non (whole p)) (noHolders NotWhole)
-    (cond (leb seriesCount s) (noHolders BadEvent)
-    (cond (non (isOpen (seriesAt (p .copies) s))) (noHolders None) (holdersIn (seriesAt (p .copies) s)))))
+    (cond (non (whole p)) (noHolders NotWhole) (holdersThere (seriesAt (p .copies) s) s))

@@ -4,14 +4,14 @@ use Rattle.plant.proofs.Held.{there-bad, there-closed, there-held}
 use Rattle.plant.proofs.holding.holders_in.Statement.{statement}
 use Rattle.plant.proofs.holding.holders_in.Tie as tie
 
+is-open-requires : tie.Need-is-open-requires
+is-open-requires c κs = search needs
+
 no-holders-requires : tie.Need-no-holders-requires
 no-holders-requires c κs = search needs
 
 returns : tie.Need-returns
 returns c = search there-bad
-
-is-open-requires : tie.Need-is-open-requires
-is-open-requires c κs = search needs
 
 no-holders-requires-2 : tie.Need-no-holders-requires-2
 no-holders-requires-2 c κs = search needs
@@ -32,9 +32,9 @@ pub holders-in-spec : {M : Type 1} → statement M
 holders-in-spec =
     tie.close
     (tie.spec
+    is-open-requires
     no-holders-requires
     returns
-    is-open-requires
     no-holders-requires-2
     returns-2
     holders-requires

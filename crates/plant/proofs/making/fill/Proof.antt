@@ -6,6 +6,7 @@ use lib.ListN.{length, replicate}
 use lib.Seq.{sets}
 use borrow.Author.Needs.{needs}
 use Rattle.copies.proofs.Filled.{row-end}
+use Rattle.plant.specs.Calls.{filled}
 use Rattle.plant.proofs.Emptied.{fill-next, fill-stop}
 use Rattle.plant.proofs.making.fill.Statement.{statement}
 use Rattle.plant.proofs.making.fill.Tie as tie
@@ -24,6 +25,7 @@ same-length : tie.Need-same-length Inv-loop μ-loop
 same-length c = search needs
 
 returns : tie.Need-returns Inv-loop μ-loop
+unfolding filled
 returns c = search fill-stop
 
 mul-column : tie.Need-mul-column Inv-loop μ-loop
@@ -45,6 +47,7 @@ same-length-2 : tie.Need-same-length-2 Inv-loop μ-loop
 same-length-2 c = search needs
 
 returns-2 : tie.Need-returns-2 Inv-loop μ-loop
+unfolding filled
 returns-2 c = search row-end
 
 pub fill-spec : {M : Type 1} → statement M

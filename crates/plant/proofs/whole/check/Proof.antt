@@ -1,6 +1,6 @@
 -- `check` meets its contract: a law for each way out. Assumes nothing.
 use borrow.Author.Needs.{needs}
-use Rattle.plant.proofs.Checking.{check-short, check-broken, check-jobs}
+use Rattle.plant.proofs.Checking.{finds-short, finds-broken, finds-of-jobs}
 use Rattle.plant.proofs.whole.check.Statement.{statement}
 use Rattle.plant.proofs.whole.check.Tie as tie
 
@@ -20,13 +20,13 @@ first-broken-job-requires : tie.Need-first-broken-job-requires
 first-broken-job-requires c κs = search needs
 
 returns : tie.Need-returns
-returns c = search check-short
+returns c = search finds-short
 
 returns-2 : tie.Need-returns-2
-returns-2 c = search check-broken
+returns-2 c = search finds-broken
 
 returns-3 : tie.Need-returns-3
-returns-3 c = search (check-jobs, c .first-broken-job .ensures)
+returns-3 c = search (finds-of-jobs, c .first-broken-job .ensures)
 
 pub check-spec : {M : Type 1} → statement M
 check-spec =
