@@ -92,6 +92,10 @@ module _ (t : Copies) (bs : List Job) (j : ℕ) (long : Long t) (below : CopiesW
   abbrev here : Job
   here = jobAt bs j
 
+  -- a used place whose lock isn't a share lock has an exclusive one (W1)
+  not-share : (i : ℕ) → i < lockCount → Used here i → (lockAt here i .mode ≡ share → ⊥) → lockAt here i .mode ≡ exclusive
+  not-share i l used other = let few = whole .range .ofLock i l .ofMode in omega (arith, used, other)
+
   -- what a used place has drawn comes, with its copy's value, to no more than the greatest value that there is: only an exclusive lock
   -- has drawn, within its series
   lock-sum : (i : ℕ) → i < lockCount → Used here i → value (lockedSeries t here i) (here .station) + lockAt here i .drawn ≤ greatestSerial + 1
@@ -100,9 +104,8 @@ module _ (t : Copies) (bs : List Job) (j : ℕ) (long : Long t) (below : CopiesW
       let series = below .opened (lockAt here i .series) (whole .range .ofLock i l .ofSeries) (own .opened) in
       let last = series .bounds .1 in
       let within = series .w1 (here .station) (whole .range .ofStation) .copyValue .1 in
-      let few = whole .range .ofLock i l .ofMode in
       dite (ℕ-discrete (lockAt here i .mode) share) (λ e. omega (arith, own .noDraw e))
-      (λ other. let some : lockAt here i .mode ≡ exclusive = omega (arith, used, other) in omega (arith, own .within some))
+      (λ other. omega (arith, own .within (not-share i l used other)))
 
   -- so READ's value is one that there is
   pub read-sum : (s : ℕ) → locksSeries here s ≡ true → value (seriesAt t s) (here .station) + lockOn here s .drawn ≤ greatestSerial + 1
@@ -124,9 +127,7 @@ module _ (t : Copies) (bs : List Job) (j : ℕ) (long : Long t) (below : CopiesW
 
     -- its lock is exclusive
     locked : lockAt here i .mode ≡ exclusive
-    locked =
-        let few = whole .range .ofLock i l .ofMode in
-        dite (ℕ-discrete (lockAt here i .mode) share) (λ e. absurd (drawn (own .noDraw e))) (λ other. omega (arith, used, other))
+    locked = not-share i l used (λ e. drawn (own .noDraw e))
 
     -- so it can be committed
     drawable : Drawable (t .lasts) (t .values) here i

@@ -1,4 +1,4 @@
--- Each public call's promise allows one result ("What the contracts are held to" in 01): the answer and every other number given back, every
+-- The promise of each public call of this crate and of `events` allows one result ("What the contracts are held to" in 01): the answer and every other number given back, every
 -- table entry and every output place.
 -- Assumes nothing.
 use Prim.Native.Nat.{ℕ}

@@ -10,8 +10,9 @@ use lib.ListN.{length, set, replicate, length-set, getD-replicate}
 use lib.Seq.{sets, getD-set-same, getD-set-other}
 use Rattle.words.specs.declared.Answer.the-variants.{Short}
 use Rattle.words.specs.Numbers.{jobCount, lockCount}
+use Rattle.jobs.specs.declared.Lock.{Lock}
 use Rattle.jobs.specs.declared.Job.{Job}
-use Rattle.jobs.specs.Job.{noJob, jobThere, begun, withLock, withDraw}
+use Rattle.jobs.specs.Job.{putLock, noJob, jobThere, begun, withLock, withDraw}
 use Rattle.jobs.specs.Slots.{noSlot, jobAt, closeFirst, closedAt}
 use Rattle.rulebook.specs.declared.Event.{Event}
 use Rattle.rulebook.specs.Tables.{Plant, shortTables}
@@ -60,9 +61,10 @@ module _ (p : Plant) (out : List ℕ) (four : FourPlaces (p .jobs)) where
   abbrev FourAt : ℕ → (Plant → Event → Effect) → Type 0
   FourAt = AtKind (λ e x. Sound p out e → FourAfter x) p
 
-  -- a job that a sound event can name has four
-  four-own : {e : Event} → Sound p out e → (j : ℕ) → j < jobCount → Four (jobAt (p .jobs) j)
-  four-own w j lt = four j (omega (arith, w .slots))
+  -- a job that a sound event names has another lock at one of its places
+  four-lock : {e : Event} → Sound p out e → (j : ℕ) → j < jobCount → (i : ℕ) (l : Lock) → FourPlaces (set (p .jobs) j (putLock (jobAt (p .jobs) j) i l))
+  four-lock w j lt i l =
+      four-put (p .jobs) j _ four (length-set (jobAt (p .jobs) j .locks) i l ∙ four j (omega (arith, w .slots)))
 
   -- BEGIN
   four-BEGIN : FourAt BEGIN doBEGIN
@@ -72,17 +74,17 @@ module _ (p : Plant) (out : List ℕ) (four : FourPlaces (p .jobs)) where
   -- LOCKX
   four-LOCKX : FourAt LOCKX doLOCKX
   unfolding FourAfter doLOCKX withLock
-  four-LOCKX a b c d w = four-put (p .jobs) a _ four (length-set (jobAt (p .jobs) a .locks) _ _ ∙ four-own w a (job-in w refl))
+  four-LOCKX a b c d w = four-lock w a (job-in w refl) _ _
 
   -- LOCKS
   four-LOCKS : FourAt LOCKS doLOCKS
   unfolding FourAfter doLOCKS withLock
-  four-LOCKS a b c d w = four-put (p .jobs) a _ four (length-set (jobAt (p .jobs) a .locks) _ _ ∙ four-own w a (job-in w refl))
+  four-LOCKS a b c d w = four-lock w a (job-in w refl) _ _
 
   -- DRAW
   four-DRAW : FourAt DRAW doDRAW
   unfolding FourAfter doDRAW withDraw
-  four-DRAW a b c d w = four-put (p .jobs) a _ four (length-set (jobAt (p .jobs) a .locks) _ _ ∙ four-own w a (job-in w refl))
+  four-DRAW a b c d w = four-lock w a (job-in w refl) _ _
 
   -- an accepted step, in the order of the kinds; those that change no slot, or close some, need no law of their own
   four-accepted : (e : Event) → Sound p out e → FourAfter (accepted p e)
