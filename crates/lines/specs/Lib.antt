@@ -1,0 +1,4 @@
+pub mod Texts
+pub mod EventLines
+pub mod Printed
+pub mod Back
