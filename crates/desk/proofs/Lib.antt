@@ -1,0 +1,10 @@
+pub mod Walks
+pub mod Still
+pub mod Ways
+pub mod Kept
+pub mod Answering
+pub mod TextLines
+pub mod Front
+pub mod Cutting
+pub mod Pieces
+pub mod Once

@@ -1,0 +1,5 @@
+pub mod Answers
+pub mod Desk
+pub mod Calls
+pub mod Pieces
+pub mod Once
