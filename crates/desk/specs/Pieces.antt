@@ -68,8 +68,8 @@ arrived (a ∷ rest) = arriving a (arrived rest)
 abbrev pub answersHeld : Stand → List ℕ
 answersHeld s = answersFrom (s .desk .number) (s .desk .plant) (s .desk .out) (s .held)
 
--- THE STATEMENT: however the text was cut into pieces, what was said so far and then the answers to what is held are the answers to the whole text. So where nothing is
--- held, all of it is answered as it would be at once.
+-- THE STATEMENT: however the text was cut into pieces, what was said so far and then the answers to what is held are the answers to the
+-- whole text. So where nothing is held, all of it is answered as it would be at once.
 abbrev pub AnyCutting : Type 0
 AnyCutting = (acts : List Act) → acted acts start .said ++ answersHeld (acted acts start) ≡ answersTo (arrived acts)
 

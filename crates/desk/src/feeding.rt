@@ -176,7 +176,7 @@ fn whole_line(text: &[u8], at: usize, room: usize, number: u64) -> Found
 }
 
 // Answers the whole lines at the front of a text, the first of which has the number given, into out from its start on, as long as out
-// has room for an answer of any length.
+// has room for an answer of any length. The output that a COMMIT writes its draws into is row.
 pub fn feed(
     text: &[u8],
     number: u64,
