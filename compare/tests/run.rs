@@ -2,15 +2,20 @@
 
 use std::collections::HashMap;
 use std::io::{BufRead, BufReader, Write};
-use std::process::{Command, Stdio};
+use std::process::{Child, Command, Stdio};
 use std::thread;
 
-fn run(input: &[u8]) -> String {
-    let mut child = Command::new(env!("CARGO_BIN_EXE_run"))
+/// The run program with a pipe at either end.
+fn start() -> Child {
+    Command::new(env!("CARGO_BIN_EXE_run"))
         .stdin(Stdio::piped())
         .stdout(Stdio::piped())
         .spawn()
-        .unwrap();
+        .unwrap()
+}
+
+fn run(input: &[u8]) -> String {
+    let mut child = start();
     // The program writes while it reads, so both ends must be served.
     let mut into = child.stdin.take().unwrap();
     let input = input.to_vec();
@@ -73,11 +78,7 @@ fn empty_input_gives_no_output() {
 
 #[test]
 fn answers_come_before_more_is_read() {
-    let mut child = Command::new(env!("CARGO_BIN_EXE_run"))
-        .stdin(Stdio::piped())
-        .stdout(Stdio::piped())
-        .spawn()
-        .unwrap();
+    let mut child = start();
     let mut into = child.stdin.take().unwrap();
     let mut from = BufReader::new(child.stdout.take().unwrap());
     let mut answer = String::new();
