@@ -4,7 +4,7 @@ use mathlib.Core.Path.{_≡_, refl, ap}
 use mathlib.Core.List.{List, [], _∷_, _++_}
 use Rattle.rulebook.specs.Tables.{Plant}
 use Rattle.rulebook.specs.Steps.{stepOf}
-use Rattle.rulebook.specs.Run.{replyTo, runFrom}
+use Rattle.rulebook.specs.Run.{replyTo, runBy, runFrom}
 use Rattle.lines.specs.declared.Parsed.{Parsed}
 use Rattle.lines.specs.declared.Parsed.the-variants.{Good, Bad}
 use Rattle.lines.specs.EventLines.{eventLine}
@@ -20,7 +20,7 @@ linesSaid d (l ∷ ls) = says d l ++ linesSaid (after d l) ls
 -- they are the run's replies to the events that the lines say, as answer lines
 run-said : (ls : List (List ℕ)) (n : ℕ) (p : Plant) (out : List ℕ)
     → answerLines n (repliesTo ls (runFrom p out (eventsOf ls) .replies)) ≡ linesSaid (desk n p out) ls
-unfolding linesSaid eventsOf repliesTo answerLines runFrom stepOf says after heard
+unfolding linesSaid eventsOf repliesTo answerLines runFrom runBy stepOf says after heard
 run-said [] n p out = refl
 run-said (l ∷ ls) n p out = by (eventLine l) (run-said ls (n + 1))
   where

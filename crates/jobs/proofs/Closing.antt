@@ -1,5 +1,5 @@
 -- What a crash leaves of the slots, one slot after the other: the laws of the loop that closes and counts. Assumes nothing.
-use Prim.Native.Nat.{ℕ, zero, suc, _+_, _≤_}
+use Prim.Native.Nat.{ℕ, zero, suc, _+_, _≤_, _<_}
 use native.Mathlib.Nat.{add-zero, not-suc-le-zero, le-of-suc-le-suc}
 use native.Mathlib.Omega.{arith}
 use native.Mathlib.Numerals.{add-one}
@@ -8,7 +8,7 @@ use mathlib.Core.Bool.{Bool, true, false, not, cond}
 use mathlib.Core.List.{List, [], _∷_}
 use lib.ListN.{set}
 use borrow.Author.Tests.{not-true, not-false}
-use Rattle.words.specs.Tests.{sumBelow, oneIf}
+use Rattle.words.specs.Tests.{_and_, sumBelow, oneIf}
 use Rattle.words.proofs.Laws.{sum-next}
 use Rattle.jobs.specs.declared.Job.{Job}
 use Rattle.jobs.specs.declared.Closed.{Closed}
@@ -28,6 +28,14 @@ module _ (n : ℕ) where
   close-later (suc k) [] i h = refl
   close-later (suc k) (b ∷ bs) zero h = absurd (not-suc-le-zero h)
   close-later (suc k) (b ∷ bs) (suc i) h = close-later k bs i (le-of-suc-le-suc h)
+
+  -- of the first k slots, that of a job of the station is closed, and another stays
+  pub close-at : (k : ℕ) (bs : List Job) (j : ℕ) → j < k → jobAt (closeFirst n k bs) j ≡ cond (jobThere (jobAt bs j) n) noJob (jobAt bs j)
+  unfolding closeFirst _and_
+  close-at zero bs j l = absurd (not-suc-le-zero l)
+  close-at (suc k) [] j l = refl
+  close-at (suc k) (b ∷ bs) zero l = refl
+  close-at (suc k) (b ∷ bs) (suc j) l = close-at k bs j (le-of-suc-le-suc l)
 
   -- a job of the station is closed
   close-hit : (k : ℕ) (bs : List Job) → jobThere (jobAt bs k) n ≡ true → set (closeFirst n k bs) k noJob ≡ closeFirst n (suc k) bs

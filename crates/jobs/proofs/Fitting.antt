@@ -26,7 +26,7 @@ use Rattle.jobs.specs.Job.{lockAt, isUsed, locksHere, locksSeries, lockP
 use Rattle.jobs.specs.Whole.{W4differs}
 use Rattle.jobs.specs.Slots.{jobAt}
 use Rattle.jobs.specs.Draws.{entryThere, drawFits, fits}
-use Rattle.jobs.specs.Facts.{OpenJob, Used, lockedSeries, LockWhole, JobWhole}
+use Rattle.jobs.specs.Facts.{OpenJob, Used, Locks, lockedSeries, LockWhole, JobWhole}
 use Rattle.jobs.proofs.Reflect.{used-reflects, W4differs-reflects}
 
 -- A count can be added to the value of the copy of series s at station n: there is such a copy, and the sum passes neither last + 1
@@ -85,16 +85,39 @@ reflects-draw lasts values b i =
     (reflects-and _ _ (reflects-and _ _ (reflects-addable lasts values (lockAt b i .series) (b .station) (lockAt b i .drawn)) (reflects-self (isUsed b i)))
     (reflects-self (W4differs b i)))
 
+-- a job that locks series s has a place that does
+pub lock-place : (b : Job) (s : ℕ) → locksSeries b s ≡ true → (lockPlace b s < lockCount) × Locks b s (lockPlace b s)
+unfolding locksSeries lockPlace
+lock-place b s e =
+    let least = least-true lockCount (locksHere b s) e in
+    let two = both-true _ _ (least .1) in
+    (least .0, (used-reflects b (lockPlace b s) .0 (two .0), eqb-true (lockOn b s .series) s (two .1)))
+
+-- ---- the lock places of an open job in whole slots
+module _ {t : Copies} {bs : List Job} {j : ℕ} (whole : JobWhole t bs j) (opened : OpenJob (jobAt bs j)) (i : ℕ) (l : i < lockCount) where
+  -- a used place whose lock isn't a share lock has an exclusive one (W1)
+  not-share : Used (jobAt bs j) i → (lockAt (jobAt bs j) i .mode ≡ share → ⊥) → lockAt (jobAt bs j) i .mode ≡ exclusive
+  not-share used other = let few = whole .range .ofLock i l .ofMode in omega (arith, used, other)
+
+  module _ (drawn : lockAt (jobAt bs j) i .drawn ≡ 0 → ⊥) where
+    -- a place with a draw is used
+    pub drawn-used : Used (jobAt bs j) i
+    drawn-used e = drawn (whole .place i l .zero e .1)
+
+    -- so W4 speaks of it
+    pub drawn-whole : LockWhole t (jobAt bs j) i
+    drawn-whole = whole .opened opened .lock i l drawn-used
+
+    -- its lock is exclusive: a share lock has drawn nothing
+    pub drawn-exclusive : lockAt (jobAt bs j) i .mode ≡ exclusive
+    drawn-exclusive = not-share drawn-used (λ e. drawn (drawn-whole .noDraw e))
+
 -- in whole tables all that an open job has drawn can be committed: a draw is on an exclusive lock, within its series (W4), and no series
 -- goes past the greatest last number (W1)
 module _ (t : Copies) (bs : List Job) (j : ℕ) (long : Long t) (below : CopiesWhole t) (whole : JobWhole t bs j) (opened : OpenJob (jobAt bs j)) where
   -- the job in slot j
   abbrev here : Job
   here = jobAt bs j
-
-  -- a used place whose lock isn't a share lock has an exclusive one (W1)
-  not-share : (i : ℕ) → i < lockCount → Used here i → (lockAt here i .mode ≡ share → ⊥) → lockAt here i .mode ≡ exclusive
-  not-share i l used other = let few = whole .range .ofLock i l .ofMode in omega (arith, used, other)
 
   -- what a used place has drawn comes, with its copy's value, to no more than the greatest value that there is: only an exclusive lock
   -- has drawn, within its series
@@ -105,48 +128,30 @@ module _ (t : Copies) (bs : List Job) (j : ℕ) (long : Long t) (below : CopiesW
       let last = series .bounds .1 in
       let within = series .w1 (here .station) (whole .range .ofStation) .copyValue .1 in
       dite (ℕ-discrete (lockAt here i .mode) share) (λ e. omega (arith, own .noDraw e))
-      (λ other. omega (arith, own .within (not-share i l used other)))
+      (λ other. omega (arith, own .within (not-share whole opened i l used other)))
 
   -- so READ's value is one that there is
   pub read-sum : (s : ℕ) → locksSeries here s ≡ true → value (seriesAt t s) (here .station) + lockOn here s .drawn ≤ greatestSerial + 1
-  unfolding locksSeries lockPlace
-  read-sum s e =
-      let least = least-true lockCount (locksHere here s) e in
-      let two = both-true _ _ (least .1) in
-      let same = eqb-true (lockOn here s .series) s (two .1) in
-      rw same at (lock-sum (lockPlace here s) (least .0) (used-reflects here (lockPlace here s) .0 (two .0)))
+  read-sum s e = let place = lock-place here s e in rw (place .1 .1) at (lock-sum (lockPlace here s) (place .0) (place .1 .0))
 
-  module _ (i : ℕ) (l : i < lockCount) (drawn : lockAt here i .drawn ≡ 0 → ⊥) where
-    -- a place with a draw is used
-    used : Used here i
-    used e = drawn (whole .place i l .zero e .1)
-
-    -- what W4 says of it
-    own : LockWhole t here i
-    own = whole .opened opened .lock i l used
-
-    -- its lock is exclusive
-    locked : lockAt here i .mode ≡ exclusive
-    locked = not-share i l used (λ e. drawn (own .noDraw e))
-
-    -- so it can be committed
-    drawable : Drawable (t .lasts) (t .values) here i
-    drawable =
-        let s = whole .range .ofLock i l .ofSeries in
-        let within = own .within locked in (
-          (
-            record {
-              longLasts = long .lasts;
-              longValues = long .values;
-              series = s;
-              station = whole .range .ofStation;
-              within = within;
-              small = lock-sum i l used;
-            },
-            used-reflects here i .1 used,
-          ),
-          W4differs-reflects here i .1 (own .differs),
-        )
+  -- a place with a draw can be committed
+  drawable : (i : ℕ) → i < lockCount → (lockAt here i .drawn ≡ 0 → ⊥) → Drawable (t .lasts) (t .values) here i
+  drawable i l drawn =
+      let used = drawn-used whole opened i l drawn in
+      let own = drawn-whole whole opened i l drawn in (
+        (
+          record {
+            longLasts = long .lasts;
+            longValues = long .values;
+            series = whole .range .ofLock i l .ofSeries;
+            station = whole .range .ofStation;
+            within = own .within (drawn-exclusive whole opened i l drawn);
+            small = lock-sum i l used;
+          },
+          used-reflects here i .1 used,
+        ),
+        W4differs-reflects here i .1 (own .differs),
+      )
 
   -- and so can all that the job has drawn
   pub whole-fits : fits (t .lasts) (t .values) here ≡ true

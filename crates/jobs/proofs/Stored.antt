@@ -39,7 +39,7 @@ raise-added t s n count a =
     rw (le-ltb _ _ (a .longLasts), le-ltb _ _ (a .longValues), copy-good s n (a .series) (a .station), le-ltb _ _ (a .within), le-ltb _ _ (a .small))
 
 -- the value of another series' copy stays
-raised-value : (t : Copies) (s n count : ℕ) {i : ℕ} → i ≢ s → value (seriesAt (raised t s n count) i) n ≡ value (seriesAt t i) n
+pub raised-value : (t : Copies) (s n count : ℕ) {i : ℕ} → i ≢ s → value (seriesAt (raised t s n count) i) n ≡ value (seriesAt t i) n
 unfolding raised
 raised-value t s n count {i} ne = getD-set-other (t .values) (place s n) (place i n) _ 0 (λ e. ne (omega arith))
 
@@ -59,7 +59,7 @@ raised-addable t s n count {i} {more} ne a =
 
 -- ---- one lock place
 -- the draw that a lock at station n has noted
-abbrev drawOf : Copies → ℕ → Lock → Draw
+abbrev pub drawOf : Copies → ℕ → Lock → Draw
 drawOf t n l = record { series = l .series; first = value (seriesAt t (l .series)) n; count = l .drawn; station = n }
 
 -- k draws were stored before these: they are counted, committed and shown
@@ -81,7 +81,7 @@ module _ (n : ℕ) (l : Lock) where
   one-none x e = rw (eq-eqb _ _ e)
 
   -- and there is none in front
-  draws-none : (t : Copies) (ls : List Lock) → l .drawn ≡ 0 → drawsOn t n (l ∷ ls) ≡ drawsOn t n ls
+  pub draws-none : (t : Copies) (ls : List Lock) → l .drawn ≡ 0 → drawsOn t n (l ∷ ls) ≡ drawsOn t n ls
   unfolding drawsOn
   draws-none t ls e = rw (eq-eqb _ _ e)
 
@@ -91,7 +91,7 @@ module _ (n : ℕ) (l : Lock) where
   one-some k t out ne a = rw (ne-eqb _ _ ne, raise-added t (l .series) n (l .drawn) a, value-there (t .lasts) (t .values) (l .series) n (l .drawn) a)
 
   -- and it stands in front
-  draws-some : (t : Copies) (ls : List Lock) → l .drawn ≢ 0 → drawsOn t n (l ∷ ls) ≡ drawOf t n l ∷ drawsOn t n ls
+  pub draws-some : (t : Copies) (ls : List Lock) → l .drawn ≢ 0 → drawsOn t n (l ∷ ls) ≡ drawOf t n l ∷ drawsOn t n ls
   unfolding drawsOn
   draws-some t ls ne = rw (ne-eqb _ _ ne)
 
@@ -126,7 +126,7 @@ store-end b n i x z le ge e = let same : n ≡ i = omega arith in rw same e
 
 -- ---- the places of a job, from the front
 -- the lock at place i
-abbrev lockOf : List Lock → ℕ → Lock
+abbrev pub lockOf : List Lock → ℕ → Lock
 lockOf ls i = getD ls i noLock
 
 -- a job of these locks
@@ -144,15 +144,15 @@ abbrev Adds : Copies → ℕ → List Lock → Type 0
 Adds t n ls = (i : ℕ) → i < length ls → lockOf ls i .drawn ≢ 0 → Addable (t .lasts) (t .values) (lockOf ls i .series) n (lockOf ls i .drawn)
 
 -- no two draws are in one series
-abbrev SeriesDiffer : List Lock → Type 0
+abbrev pub SeriesDiffer : List Lock → Type 0
 SeriesDiffer ls = (i k : ℕ) → i < length ls → k < i → lockOf ls i .drawn ≢ 0 → lockOf ls k .drawn ≢ 0 → lockOf ls i .series ≢ lockOf ls k .series
 
 -- no draw is in series s
-abbrev NotIn : ℕ → List Lock → Type 0
+abbrev pub NotIn : ℕ → List Lock → Type 0
 NotIn s ls = (i : ℕ) → i < length ls → lockOf ls i .drawn ≢ 0 → lockOf ls i .series ≢ s
 
 -- a raise of a series that no draw is in leaves the draws
-draws-raised : (t : Copies) (s n count : ℕ) (ls : List Lock) → NotIn s ls → drawsOn (raised t s n count) n ls ≡ drawsOn t n ls
+pub draws-raised : (t : Copies) (s n count : ℕ) (ls : List Lock) → NotIn s ls → drawsOn (raised t s n count) n ls ≡ drawsOn t n ls
 unfolding drawsOn
 draws-raised t s n count [] h = refl
 draws-raised t s n count (l ∷ ls) h =
@@ -184,7 +184,7 @@ unfolding non _and_
 not-both a b e p q = true≢false (sym (rw (p, q) at e))
 
 -- W4: an earlier used place is on another series
-differs-earlier : (b : Job) (i k : ℕ) → W4differs b i ≡ true → k < i → isUsed b k ≡ true → lockAt b i .series ≢ lockAt b k .series
+pub differs-earlier : (b : Job) (i k : ℕ) → W4differs b i ≡ true → k < i → isUsed b k ≡ true → lockAt b i .series ≢ lockAt b k .series
 unfolding W4differs
 differs-earlier b i k w lt used e = not-both _ _ (all-true i _ w k lt) used (eq-eqb _ _ (sym e))
 

@@ -2,16 +2,13 @@
 -- Assumes nothing.
 use mathlib.Core.Path.{_≡_, refl, ap, _∙_}
 use mathlib.Core.List.{List, map}
-use lib.ListN.{replicate}
-use Rattle.words.specs.Numbers.{outCount}
 use Rattle.rulebook.specs.declared.Event.{Event}
-use Rattle.rulebook.specs.Around.{emptyPlant}
-use Rattle.rulebook.specs.Run.{Run}
+use Rattle.rulebook.specs.Run.{Run, fromEmpty}
 use Rattle.rulebook.specs.Edges.{linesOf, workedRun, edges, EdgesRight}
-use Rattle.rulebook.proofs.Walked.{runWalked, run-of}
+use Rattle.rulebook.proofs.Walked.{effectWalked, run-of}
 use Rattle.rulebook.proofs.Computes.{computes}
 
-computed : map (λ x. linesOf (runWalked emptyPlant (replicate outCount 0) (x .events))) edges ≡ map (λ x. x .answers) edges
+computed : map (λ x. linesOf (fromEmpty effectWalked (x .events))) edges ≡ map (λ x. x .answers) edges
 unfolding computes workedRun edges
 computed = refl
 

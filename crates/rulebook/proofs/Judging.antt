@@ -5,6 +5,7 @@ use mathlib.Core.Path.{_≡_, refl}
 use mathlib.Core.Bool.{Bool, true, false, cond}
 use mathlib.Core.List.{List, [], _∷_}
 use lib.ListN.{getD}
+use Rattle.words.specs.declared.Answer.{Answer}
 use Rattle.copies.specs.Steps.{arrived, deleted, isRepeat, matches}
 use Rattle.rulebook.specs.declared.Event.{Event}
 use Rattle.rulebook.specs.Tables.{Plant, withCopies}
@@ -26,15 +27,39 @@ abbrev pub NoneGiven : List Refusal → Plant → Event → Type 0
 NoneGiven [] p e = Unit {0}
 NoneGiven (r ∷ rs) p e = (r .given p e ≡ false) × NoneGiven rs p e
 
--- what is shown of every refusal, and of the accepted step where none is given, is shown of what is judged
-pub judged-cases : (P : Effect → Type 0) (rs : List Refusal) (p : Plant) (e : Event)
-    → ((r : Refusal) → P (refused (r .answer) p))
+-- where none of the refusals is given, an event has its accepted step
+pub judged-accepted : (rs : List Refusal) (p : Plant) (e : Event) → NoneGiven rs p e → judged rs p e ≡ accepted p e
+unfolding judged
+judged-accepted [] p e none = refl
+judged-accepted (r ∷ rs) p e none = rw (none .0) (judged-accepted rs p e (none .1))
+
+-- a statement of each answer that they give
+abbrev pub EachAnswer : (Q : Answer → Type 0) → List Refusal → Type 0
+EachAnswer Q [] = Unit {0}
+EachAnswer Q (r ∷ rs) = Q (r .answer) × EachAnswer Q rs
+
+-- what is shown of a refusal with each of these answers, and of the accepted step where none is given, is shown of what is judged
+pub judged-answers : (P : Effect → Type 0) (Q : Answer → Type 0) (rs : List Refusal) (p : Plant) (e : Event)
+    → EachAnswer Q rs
+    → ((a : Answer) → Q a → P (refused a p))
     → (NoneGiven rs p e → P (accepted p e))
     → P (judged rs p e)
 unfolding judged
-judged-cases P [] p e stop go = go tt
-judged-cases P (r ∷ rs) p e stop go =
-    cond-cases P (r .given p e) _ _ (λ h. stop r) (λ h. judged-cases P rs p e stop (λ more. go (h, more)))
+judged-answers P Q [] p e each stop go = go tt
+judged-answers P Q (r ∷ rs) p e each stop go =
+    cond-cases P (r .given p e) _ _ (λ h. stop (r .answer) (each .0))
+    (λ h. judged-answers P Q rs p e (each .1) stop (λ more. go (h, more)))
+
+-- nothing needs to be known of the answers where it is shown of every refusal
+pub judged-cases : (P : Effect → Type 0) (rs : List Refusal) (p : Plant) (e : Event)
+    → ((a : Answer) → P (refused a p))
+    → (NoneGiven rs p e → P (accepted p e))
+    → P (judged rs p e)
+judged-cases P rs p e stop go = judged-answers P (λ a. Unit {0}) rs p e (any rs) (λ a _. stop a) go
+  where
+    any : (rs : List Refusal) → EachAnswer (λ a. Unit {0}) rs
+    any [] = tt
+    any (r ∷ rs) = (tt, any rs)
 
 -- ---- the kinds
 -- a statement of each accepted step of a list, at its own kind

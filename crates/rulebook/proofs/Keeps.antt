@@ -24,7 +24,7 @@ use Rattle.rulebook.specs.Keeps.{Refused, StepRefusalKeeps, EmptyRefusal
 use Rattle.rulebook.proofs.Judging.{cond-cases, judged-cases, accepted-by-kind, _then_, grant-cases, ack-cases}
 
 -- a refusal has value 0
-no-value : (a : Answer) → Refused a → valueOf a ≡ 0
+pub no-value : (a : Answer) → Refused a → valueOf a ≡ 0
 no-value (Done v) h = absurd (h refl)
 no-value Short h = refl
 no-value NotWhole h = refl
@@ -46,11 +46,11 @@ no-value Others h = refl
 no-value NoMessage h = refl
 
 -- an accepted step's code is 0
-unfoldable Accepts : Effect → Type 0
+unfoldable pub Accepts : Effect → Type 0
 Accepts x = codeOf (x .answer) ≡ 0
 
 -- so it is, in the order of the kinds
-accepted-code : (p : Plant) (e : Event) → Accepts (accepted p e)
+pub accepted-code : (p : Plant) (e : Event) → Accepts (accepted p e)
 unfolding Accepts doOPEN doBEGIN doLOCKX doLOCKS doDRAW doREAD doCOMMIT doABORT doSEND doDEMOTE doSHARE doDROP doPROMOTE doCRASH doRESTART
 accepted-code p =
     accepted-by-kind (λ e x. Accepts x) p
@@ -80,7 +80,7 @@ pub step-refusal-keeps : StepRefusalKeeps
 unfolding stepOf effect shown Accepts
 step-refusal-keeps p out e h =
     let w = judged-cases (λ (x : Effect). Refused (x .answer) → (valueOf (x .answer) ≡ 0) × (x .plant ≡ p) × (x .draws ≡ [])) (refusals out) p e
-    (λ r. λ refusal. (no-value (r .answer) refusal, refl, refl)) (λ none. λ refusal. absurd (refusal (accepted-code p e))) h in
+    (λ a. λ refusal. (no-value a refusal, refl, refl)) (λ none. λ refusal. absurd (refusal (accepted-code p e))) h in
     (w .0, w .1, rw (w .2))
 
 -- where no empty plant is made, the tables are left

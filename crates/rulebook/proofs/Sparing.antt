@@ -180,7 +180,7 @@ module _ (p : Plant) where
         (λ e w. spares-same 0)
 
     -- any step
-    spares-step : (e : Event) → Spares p (effect p out e)
+    pub spares-step : (e : Event) → Spares p (effect p out e)
     unfolding effect
     spares-step e =
         judged-cases (Spares p) (refusals out) p e

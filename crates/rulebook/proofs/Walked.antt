@@ -1,12 +1,11 @@
 -- A run that antt can compute: its whole check passes each entry of the tables once. It gives what the run of the rulebook gives.
 -- Assumes nothing.
 use Prim.Native.Nat.{ℕ}
-use mathlib.Core.Path.{_≡_, refl, ap}
+use mathlib.Core.Path.{_≡_, ap}
 use mathlib.Core.Bool.{Bool}
-use mathlib.Core.List.{List, [], _∷_}
-use lib.ListN.{replicate}
+use mathlib.Core.List.{List, _∷_}
 use Rattle.words.specs.declared.Answer.the-variants.{Short, NotWhole}
-use Rattle.words.specs.Numbers.{seriesCount, outCount}
+use Rattle.words.specs.Numbers.{seriesCount}
 use Rattle.words.specs.Tests.{non, _and_}
 use Rattle.copies.specs.Whole.{W1series, W2series, W3series, W5series, W1marks, W1copies, W2copies, W3copies, W5copies}
 use Rattle.copies.proofs.Walked.{walked, every-walked}
@@ -16,8 +15,7 @@ use Rattle.rulebook.specs.Tables.{Plant}
 use Rattle.rulebook.specs.Whole.{W1, W2, W3, W4, W5, whole}
 use Rattle.rulebook.specs.Refusals.{SHORT, NOT-WHOLE, says, eventRefusals}
 use Rattle.rulebook.specs.Steps.{Effect, judged, effect}
-use Rattle.rulebook.specs.Around.{emptyPlant}
-use Rattle.rulebook.specs.Run.{Run, andThen, runFrom, runOf}
+use Rattle.rulebook.specs.Run.{Machine, fromEmpty, runOf}
 
 -- ---- the rules, and the whole check
 unfoldable pub W1walked : Plant → Bool
@@ -65,15 +63,9 @@ effect-walked p out e =
     ap (λ (given : Plant → Event → Bool). judged (says Short (SHORT out) ∷ says NotWhole given ∷ eventRefusals) p e)
     (λ x q _. non (whole-walked q x))
 
-unfoldable pub runWalked : Plant → List ℕ → List Event → Run
-runWalked p out [] = record { replies = []; draws = []; plant = p; out = out }
-runWalked p out (e ∷ es) = andThen e out (effectWalked p out e) (λ q next. runWalked q next es)
+pub same-machine : _≡_ {A = Machine} effect effectWalked
+same-machine = λ x p out e. effect-walked p out e x
 
-run-walked : (p : Plant) (out : List ℕ) (es : List Event) → runFrom p out es ≡ runWalked p out es
-unfolding runFrom runWalked
-run-walked p out [] = refl
-run-walked p out (e ∷ es) = λ x. andThen e out (effect-walked p out e x) (λ q next. run-walked q next es x)
-
-pub run-of : (es : List Event) → runOf es ≡ runWalked emptyPlant (replicate outCount 0) es
+pub run-of : (es : List Event) → runOf es ≡ fromEmpty effectWalked es
 unfolding runOf
-run-of es = run-walked emptyPlant (replicate outCount 0) es
+run-of es = ap (λ (m : Machine). fromEmpty m es) same-machine

@@ -40,11 +40,23 @@ before a ds r = record { replies = a ∷ r .replies; draws = ds ++ r .draws; pla
 abbrev pub andThen : Event → List ℕ → Effect → (Plant → List ℕ → Run) → Run
 andThen e out x go = before (replyTo e (outcome out x)) (x .draws) (go (x .plant) (outcome out x .out))
 
--- a run from given tables and output
-unfoldable pub runFrom : Plant → List ℕ → List Event → Run
-runFrom p out [] = record { replies = []; draws = []; plant = p; out = out }
-runFrom p out (e ∷ es) = andThen e out (effect p out e) (λ q next. runFrom q next es)
+-- A machine: what it does with an event, given the tables and the output. The rulebook's is `effect`.
+abbrev pub Machine : Type 0
+Machine = Plant → List ℕ → Event → Effect
 
--- a run from the empty plant
+-- the run of a machine from given tables and output
+unfoldable pub runBy : Machine → Plant → List ℕ → List Event → Run
+runBy m p out [] = record { replies = []; draws = []; plant = p; out = out }
+runBy m p out (e ∷ es) = andThen e out (m p out e) (λ q next. runBy m q next es)
+
+-- and from the empty plant
+unfoldable pub fromEmpty : Machine → List Event → Run
+fromEmpty m es = runBy m emptyPlant (replicate outCount 0) es
+
+-- the rulebook's run from given tables and output
+unfoldable pub runFrom : Plant → List ℕ → List Event → Run
+runFrom p out es = runBy effect p out es
+
+-- and from the empty plant
 unfoldable pub runOf : List Event → Run
-runOf es = runFrom emptyPlant (replicate outCount 0) es
+runOf es = fromEmpty effect es
