@@ -1,0 +1,93 @@
+-- The machine's answers to the lists that are tried, by computation.
+-- The definitions of Machines.antt are opened too, so that of a wrong machine it is the answers that differ.
+-- Assumes nothing.
+use Prim.Native.Nat.{ℕ}
+use mathlib.Core.Path.{_≡_, refl, sym, ap, _∙_}
+use mathlib.Core.Bool.{Bool, true, false, true≢false}
+use mathlib.Core.List.{List, [], _∷_, _++_}
+use lib.Dec.{eqb}
+use borrow.Author.Tests.{eqb-true}
+use Rattle.words.specs.Tests.{_and_}
+use Rattle.words.proofs.Laws.{both-true}
+use Rattle.rulebook.specs.declared.Event.{Event}
+use Rattle.rulebook.specs.Events.{RESTART}
+use Rattle.rulebook.specs.Edges.{event, gives, linesOf}
+use Rattle.rulebook.specs.Run.{Machine, fromEmpty}
+use Rattle.rulebook.proofs.Walked.{effectWalked, same-machine}
+use Rattle.rulebook.proofs.Computes.{computes}
+use Rattle.wrong.specs.Machines.{instead, voidReleased}
+use Rattle.wrong.specs.Tried.{reads, locks, draw, twoJobs, comesAgain, ownDraw, drawnThere, shareUnderWay, crashes, onlyShare, backBeforeAck, changed, Gives, TriesRight}
+
+-- ---- equality as a test, so that a difference is told at once
+-- two lists have the same entries, as the test of entries says
+unfoldable sameList : {A : Type 0} → (A → A → Bool) → List A → List A → Bool
+sameList same [] [] = true
+sameList same [] (y ∷ b) = false
+sameList same (x ∷ a) [] = false
+sameList same (x ∷ a) (y ∷ b) = same x y and sameList same a b
+
+-- and so they are equal
+same-list : {A : Type 0} (same : A → A → Bool) → ((x y : A) → same x y ≡ true → x ≡ y) → (a b : List A) → sameList same a b ≡ true → a ≡ b
+unfolding sameList
+same-list same is [] [] e = refl
+same-list same is [] (y ∷ b) e = absurd (true≢false (sym e))
+same-list same is (x ∷ a) [] e = absurd (true≢false (sym e))
+same-list same is (x ∷ a) (y ∷ b) e =
+    let two = both-true (same x y) (sameList same a b) e in λ i. is x y (two .0) i ∷ same-list same is a b (two .1) i
+
+-- the machine that antt can compute gives these answers, as a test
+abbrev answers : List Event → List (List ℕ) → Bool
+answers es lines = sameList (sameList eqb) (linesOf (fromEmpty (changed effectWalked) es)) lines
+
+-- then the machine gives them
+by-walking : (es : List Event) (lines : List (List ℕ)) → answers es lines ≡ true → Gives es lines
+by-walking es lines e = ap (λ (m : Machine). linesOf (fromEmpty (changed m) es)) same-machine ∙ same-list (sameList eqb) (same-list eqb eqb-true) _ lines e
+
+-- ---- the serials
+two-jobs : answers twoJobs (gives 0 0 ∷ gives 0 0 ∷ gives 0 0 ∷ gives 0 0 ∷ draw 1 ∷ gives 0 0 ∷ gives 0 0 ∷ gives 0 0 ∷ draw 2 ∷ []) ≡ true
+unfolding computes instead sameList twoJobs
+two-jobs = refl
+
+comes-again : answers comesAgain (gives 0 0 ∷ gives 0 1 ∷ gives 0 1 ∷ gives 0 1 ∷ gives 0 1 ∷ gives 0 0 ∷ gives 0 0 ∷ gives 0 0 ∷ draw 1 ∷ gives 0 0 ∷ []) ≡ true
+unfolding computes instead sameList comesAgain
+comes-again = refl
+
+-- ---- the reads
+own-draw : answers (ownDraw ++ reads ∷ []) (gives 0 0 ∷ gives 0 0 ∷ gives 0 0 ∷ gives 0 0 ∷ gives 0 2 ∷ []) ≡ true
+unfolding computes instead sameList ownDraw
+own-draw = refl
+
+drawn-there : answers (drawnThere ++ reads ∷ []) (gives 0 0 ∷ gives 0 1 ∷ gives 0 1 ∷ gives 0 0 ∷ gives 0 0 ∷ gives 0 0 ∷ draw 1 ∷ gives 0 0 ∷ gives 0 0 ∷ gives 0 2 ∷ []) ≡ true
+unfolding computes instead sameList drawnThere
+drawn-there = refl
+
+-- ---- whole tables
+share-under-way : answers shareUnderWay (gives 0 0 ∷ gives 0 0 ∷ gives 0 1 ∷ gives 17 0 ∷ []) ≡ true
+unfolding computes instead sameList shareUnderWay
+share-under-way = refl
+
+crash-and-restart : answers (crashes ++ event RESTART 0 0 0 0 ∷ []) (gives 0 0 ∷ gives 0 1 ∷ gives 0 0 ∷ []) ≡ true
+unfolding computes instead sameList crashes
+crash-and-restart = refl
+
+-- ---- nothing is lost
+only-share : answers onlyShare (gives 0 0 ∷ gives 0 0 ∷ gives 17 0 ∷ []) ≡ true
+unfolding computes instead sameList onlyShare
+only-share = refl
+
+back-before-ack : answers (backBeforeAck ++ locks 0 []) (gives 0 0 ∷ gives 0 1 ∷ gives 0 1 ∷ gives 0 1 ∷ gives 0 1 ∷ gives 0 0 ∷ gives 0 1 ∷ gives 0 0 ∷ gives 0 0 ∷ []) ≡ true
+unfolding computes instead sameList voidReleased backBeforeAck
+back-before-ack = refl
+
+-- all of them
+pub tries-right : TriesRight
+tries-right = (
+  by-walking _ _ two-jobs,
+  by-walking _ _ comes-again,
+  by-walking _ _ own-draw,
+  by-walking _ _ drawn-there,
+  by-walking _ _ share-under-way,
+  by-walking _ _ crash-and-restart,
+  by-walking _ _ only-share,
+  by-walking _ _ back-before-ack,
+)
