@@ -1,7 +1,7 @@
 -- What is known of an event that no refusal is given to, refusal by refusal: at an event of a given kind each premise is `refl`.
 -- Assumes nothing.
 use Prim.Native.Nat.{ℕ, _+_, _-_, _≤_, _<_}
-use mathlib.Core.Path.{_≡_, refl, sym, _∙_}
+use mathlib.Core.Path.{_≡_, sym, _∙_}
 use mathlib.Core.Logic.{_≢_}
 use mathlib.Core.Bool.{Bool, true, false, true≢false}
 use mathlib.Core.List.{List, [], _∷_}
@@ -12,7 +12,7 @@ use Rattle.words.specs.Numbers.{stationCount, greatestSent, share, exclusive}
 use Rattle.words.specs.Tests.{non, _and_, _or_, isIn}
 use Rattle.words.proofs.Laws.{both-true, neither, true-some, least-true}
 use Rattle.words.proofs.Reflects.{reflects-eq, reflects-not, reflects-and}
-use Rattle.copies.specs.Tables.{Series, kind, value, sentCount, relKind, relTo, received, stands}
+use Rattle.copies.specs.Tables.{Series, kind, value, sentCount, relKind, relTo, received}
 use Rattle.copies.specs.Facts.{Open, Stands, Undelivered}
 use Rattle.copies.specs.Steps.{isSpent, isRepeat, matches, noGrant, noAck}
 use Rattle.copies.proofs.Reflect.{isOpen-reflects}
@@ -56,7 +56,8 @@ module _ {p : Plant} {out : List ℕ} {e : Event} (w : Admitted p out e) where
   job-opened k = eqb-true _ _ (holds _ (rw k at (neither _ _ (w .none) .1)))
 
   -- 6: the station is up
-  pub station-up : isIn (e .kind) (OPEN ∷ BEGIN ∷ DEMOTE ∷ DROP ∷ PROMOTE ∷ CRASH ∷ SEND ∷ SHARE ∷ ACK ∷ GRANT ∷ []) ≡ true → getD (p .copies .up) (theStation p e) 0 ≡ 1
+  pub station-up : isIn (e .kind) (OPEN ∷ BEGIN ∷ DEMOTE ∷ DROP ∷ PROMOTE ∷ CRASH ∷ SEND ∷ SHARE ∷ ACK ∷ GRANT ∷ []) ≡ true
+      → getD (p .copies .up) (theStation p e) 0 ≡ 1
   unfolding DOWN
   station-up k = eqb-true _ _ (holds _ (rw k at (w .down)))
 
@@ -76,17 +77,20 @@ module _ {p : Plant} {out : List ℕ} {e : Event} (w : Admitted p out e) where
   copy-exclusive k = eqb-true _ _ (holds _ (rw k at (w .copy)))
 
   -- 10: the copy is a share
-  pub copy-share : isIn (e .kind) (LOCKX ∷ SEND ∷ DEMOTE ∷ []) ≡ false → isIn (e .kind) (LOCKS ∷ SHARE ∷ DROP ∷ PROMOTE ∷ []) ≡ true → kind (theSeries p e) (theStation p e) ≡ share
+  pub copy-share : isIn (e .kind) (LOCKX ∷ SEND ∷ DEMOTE ∷ []) ≡ false → isIn (e .kind) (LOCKS ∷ SHARE ∷ DROP ∷ PROMOTE ∷ []) ≡ true
+      → kind (theSeries p e) (theStation p e) ≡ share
   unfolding COPY
   copy-share other k = eqb-true _ _ (holds _ (rw (other, k) at (w .copy)))
 
   -- 11: the copy is free
-  pub copy-free : isIn (e .kind) (LOCKX ∷ SEND ∷ DEMOTE ∷ DROP ∷ PROMOTE ∷ []) ≡ true → free (p .jobs) (the aSeries e) (theStation p e) ≡ true
+  pub copy-free : isIn (e .kind) (LOCKX ∷ SEND ∷ DEMOTE ∷ DROP ∷ PROMOTE ∷ []) ≡ true
+      → free (p .jobs) (the aSeries e) (theStation p e) ≡ true
   unfolding LOCKED
   copy-free k = holds _ (rw k at (w .locked))
 
   -- 12: DRAW has an exclusive lock of the job
-  pub draw-locked : eqb (e .kind) DRAW ≡ true → (locksSeries (theJob p e) (the aSeries e) ≡ true) × (lockOn (theJob p e) (the aSeries e) .mode ≡ exclusive)
+  pub draw-locked : eqb (e .kind) DRAW ≡ true
+      → (locksSeries (theJob p e) (the aSeries e) ≡ true) × (lockOn (theJob p e) (the aSeries e) .mode ≡ exclusive)
   unfolding NO-LOCK
   draw-locked k = let two = both-true _ _ (holds _ (rw k at (w .noLock))) in (two .0, eqb-true _ _ (two .1))
 
@@ -119,7 +123,8 @@ module _ {p : Plant} {out : List ℕ} {e : Event} (w : Admitted p out e) where
       (_, one .0, reflects-not _ (reflects-eq _ (theStation p e)) .0 (two .0), eqb-true _ _ (two .1))
 
   -- 17: PROMOTE of the only share
-  pub only-share : eqb (e .kind) DROP ≡ false → isIn (e .kind) (PROMOTE ∷ []) ≡ true → (m : ℕ) → m < stationCount → m ≢ theStation p e → kind (theSeries p e) m ≢ share
+  pub only-share : eqb (e .kind) DROP ≡ false → isIn (e .kind) (PROMOTE ∷ []) ≡ true → (m : ℕ) → m < stationCount → m ≢ theStation p e
+      → kind (theSeries p e) m ≢ share
   unfolding OTHERS
   only-share other k m l ne q =
       true≢false
@@ -127,7 +132,8 @@ module _ {p : Plant} {out : List ℕ} {e : Event} (w : Admitted p out e) where
       ∙ neither _ _ (rw (other, k) at (w .others)) .0)
 
   -- 17: with no transfer under way
-  pub none-under-way : eqb (e .kind) DROP ≡ false → isIn (e .kind) (PROMOTE ∷ []) ≡ true → (m : ℕ) → m < stationCount → Undelivered (theSeries p e) m → ⊥
+  pub none-under-way : eqb (e .kind) DROP ≡ false → isIn (e .kind) (PROMOTE ∷ []) ≡ true → (m : ℕ) → m < stationCount
+      → Undelivered (theSeries p e) m → ⊥
   unfolding OTHERS
   none-under-way other k m l u =
       true≢false (sym (true-some stationCount _ m l (undelivered-reflects (theSeries p e) m .1 u)) ∙ neither _ _ (rw (other, k) at (w .others)) .1)
@@ -154,7 +160,8 @@ unfolding noGrant isRepeat _or_
 grant-new r from to number known new = (standing r from to number (rw new at (holds _ known)), leb-false _ _ new)
 
 -- 18: an ACK of the Release that stands is of a delivered one
-pub ack-delivered : (r : Series) (from to number : ℕ) → noAck r from to number ≡ false → matches r from to number ≡ true → Undelivered r from → ⊥
+pub ack-delivered : (r : Series) (from to number : ℕ) → noAck r from to number ≡ false → matches r from to number ≡ true
+    → Undelivered r from → ⊥
 unfolding noAck _and_
 ack-delivered r from to number known m u =
     true≢false (sym (undelivered-reflects r from .1 u) ∙ (rw m at (neither _ _ known .1)))
@@ -166,6 +173,7 @@ module _ {p : Plant} {out : List ℕ} {e : Event} (w : Admitted p out e) where
   grant-message k = rw k at (w .noMessage)
 
   -- 18 of an ACK
-  pub ack-message : eqb (e .kind) GRANT ≡ false → isIn (e .kind) (ACK ∷ []) ≡ true → noAck (theSeries p e) (the aFrom e) (the aTo e) (the aNumber e) ≡ false
+  pub ack-message : eqb (e .kind) GRANT ≡ false → isIn (e .kind) (ACK ∷ []) ≡ true
+      → noAck (theSeries p e) (the aFrom e) (the aTo e) (the aNumber e) ≡ false
   unfolding NO-MESSAGE
   ack-message other k = rw (other, k) at (w .noMessage)

@@ -124,7 +124,8 @@ module _ {t : Copies} {bs : List Job} {j : ℕ} (long : Long t) (below : CopiesW
       }
 
   -- a series with a draw is open, and the draw leads from its next number to the one afterwards
-  adds-moves : {s : ℕ} → s < seriesCount → Adds t after draws station (job .locks) s → Moves s (seriesAt t s) (seriesAt after s) (map plain draws)
+  adds-moves : {s : ℕ} → s < seriesCount → Adds t after draws station (job .locks) s
+      → Moves s (seriesAt t s) (seriesAt after s) (map plain draws)
   adds-moves hs a =
       record {
         opened = λ _. (a .added .first, rw (added-whole hs a .isNext, ← drawn-next hs a) (a .chain));

@@ -50,7 +50,8 @@ abbrev pub InSeries : List Lock → Type 0
 InSeries ls = (i : ℕ) → i < length ls → lockOf ls i .drawn ≢ 0 → lockOf ls i .series < seriesCount
 
 -- a lock in front that has drawn nothing changes nothing
-settles-none : {t t′ : Copies} {ds : List Draw} {n : ℕ} (l : Lock) {ls : List Lock} {s : ℕ} → Settles t t′ ds n ls s → Settles t t′ ds n (l ∷ ls) s
+settles-none : {t t′ : Copies} {ds : List Draw} {n : ℕ} (l : Lock) {ls : List Lock} {s : ℕ} → Settles t t′ ds n ls s
+    → Settles t t′ ds n (l ∷ ls) s
 settles-none {t} {t′} {ds} {n} l {ls} {s} = ⊎-elim inl (λ a. inr (behind a))
   where
     behind : Adds t t′ ds n ls s → Adds t t′ ds n (l ∷ ls) s

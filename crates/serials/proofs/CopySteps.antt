@@ -129,11 +129,13 @@ module _ (p : Plant) (out : List ℕ) where
           (release-may-change a b _ refl refl) 1 refl refl
 
   -- a transfer that stands and is not yet received is undelivered
-  is-undelivered : {r : Series} {from to number : ℕ} → to < stationCount → Standing r from to number → received r to from < number → Undelivered r from
+  is-undelivered : {r : Series} {from to number : ℕ} → to < stationCount → Standing r from to number → received r to from < number
+      → Undelivered r from
   is-undelivered l m new = (m .isStanding, rw (m .addressed) l, rw (m .addressed, m .numbered) new)
 
   -- a copy that a transfer arrives at, if a job locks it, is a share and stays one with its value
-  arrival-may-change : {from to : ℕ} (s number : ℕ) → s < seriesCount → from < stationCount → to < stationCount → JobsWhole (p .copies) (p .jobs)
+  arrival-may-change : {from to : ℕ} (s number : ℕ) → s < seriesCount → from < stationCount → to < stationCount
+      → JobsWhole (p .copies) (p .jobs)
       → WholeAt (seriesAt (p .copies) s) (next (seriesAt (p .copies) s)) → Undelivered (seriesAt (p .copies) s) from
       → (j n : ℕ) → n < stationCount → Locked (p .jobs) j s n → SameCopy (seriesAt (p .copies) s) (seriesArrived (seriesAt (p .copies) s) from to number) n
   arrival-may-change {from} {to} s number hs hf ht above good way j n l lock =
@@ -163,7 +165,8 @@ module _ (p : Plant) (out : List ℕ) where
       grant-cases p (event GRANT a b c d) (Proper p) (λ _. proper-same (w .isSound .copies) (w .isSound .jobs) refl refl)
       (λ new. let m = grant-new _ b c d (grant-message w refl) new in arrives (m .0) (m .1))
     where
-      arrives : Standing (seriesAt (p .copies) a) b c d → received (seriesAt (p .copies) a) c b < d → Proper p (done 1 (withCopies p (arrived (p .copies) a b c d)))
+      arrives : Standing (seriesAt (p .copies) a) b c d → received (seriesAt (p .copies) a) c b < d
+          → Proper p (done 1 (withCopies p (arrived (p .copies) a b c d)))
       arrives m new =
           let s = w .isSound in
           let hs = series-in s refl in

@@ -2,20 +2,17 @@
 -- Assumes nothing.
 use Prim.Native.Nat.{ℕ, zero, suc, _+_, _≤_, _<_}
 use native.Mathlib.Omega.{arith}
-use mathlib.Core.Path.{_≡_, refl, sym}
-use mathlib.Core.Logic.{_⊎_, inl, inr, _≢_}
+use mathlib.Core.Path.{_≡_, refl}
+use mathlib.Core.Logic.{_≢_}
 use mathlib.Core.Bool.{Bool, true, false}
 use lib.Dec.{eqb}
-use borrow.Author.Tests.{eqb-true, eq-eqb, ne-eqb}
+use borrow.Author.Tests.{eq-eqb, ne-eqb}
 use Rattle.words.specs.Numbers.{stationCount}
 use Rattle.words.specs.Tests.{_and_, oneIf, sumBelow}
-use Rattle.words.proofs.Laws.{least-true, count-some}
-use Rattle.words.proofs.Reflects.{reflects-eq, reflects-and}
-use Rattle.words.proofs.Changed.{sum-changed}
+use Rattle.words.proofs.Changed.{sum-changed, sum-one, sum-two}
 use Rattle.copies.specs.Tables.{Series, kind, relKind, undelivered, tokens}
 use Rattle.copies.specs.Facts.{Undelivered}
-use Rattle.copies.proofs.Tokens.{undelivered-reflects}
-use Rattle.copies.proofs.There.{there, there-same, there-other}
+use Rattle.copies.proofs.Tokens.{undelivered-reflects, TokenOf, tokens-some}
 
 -- ---- one station
 -- a kind counts 1 for kind k where it is that kind, else 0
@@ -74,31 +71,7 @@ tokens-changed r r′ {n} hn same k =
     let transfers = sum-changed stationCount n (wayAt r k) (wayAt r′ k) hn (λ m hm ne. cc (same m hm ne .0, same m hm ne .1)) in
     omega (arith, tokens-are r k, tokens-are r′ k, copies, transfers)
 
--- ---- a count that isn't 0
--- there is a token of kind k: a copy, or an undelivered transfer
-abbrev pub TokenOf : Series → ℕ → Type 0
-TokenOf r k =
-    ((n : ℕ) × (n < stationCount) × (kind r n ≡ k)) ⊎ ((n : ℕ) × (n < stationCount) × Undelivered r n × (relKind r n ≡ k))
-
--- where one is counted, there is one
-pub tokens-some : (r : Series) (k : ℕ) → 1 ≤ tokens r k → TokenOf r k
-tokens-some r k l = split (sumBelow stationCount (copyAt r k)) _ copy transfer (rw (tokens-are r k) at l)
-  where
-    copy : 1 ≤ sumBelow stationCount (copyAt r k) → TokenOf r k
-    copy l =
-        let one = least-true stationCount _ (count-some stationCount (λ n. eqb (kind r n) k) l) in
-        inl (_, one .0, eqb-true _ _ (one .1))
-
-    transfer : 1 ≤ sumBelow stationCount (wayAt r k) → TokenOf r k
-    transfer l =
-        let one = least-true stationCount _ (count-some stationCount (λ n. undelivered r n and eqb (relKind r n) k) l) in
-        let two = reflects-and _ _ (undelivered-reflects r _) (reflects-eq (relKind r _) k) .0 (one .1) in
-        inr (_, one .0, two .0, two .1)
-
-    split : {P : Type 0} (a b : ℕ) → (1 ≤ a → P) → (1 ≤ b → P) → 1 ≤ a + b → P
-    split zero b f g l = g (omega arith)
-    split (suc a) b f g l = f (omega arith)
-
+-- ---- what is counted
 -- where there is none, none is counted
 pub tokens-none : (r : Series) (k : ℕ) → (TokenOf r k → ⊥) → tokens r k ≡ 0
 tokens-none r k none = by (tokens r k) (λ l. none (tokens-some r k l))
@@ -106,20 +79,6 @@ tokens-none r k none = by (tokens r k) (λ l. none (tokens-some r k l))
     by : (c : ℕ) → (1 ≤ c → ⊥) → c ≡ 0
     by zero f = refl
     by (suc c) f = absurd (f (omega arith))
-
--- ---- what is counted
--- a sum is that of the other terms, and one
-sum-but : (n i : ℕ) (f : ℕ → ℕ) → i < n → sumBelow n (there i 0 f) + f i ≡ sumBelow n f
-sum-but n i f hi =
-    omega (arith, sum-changed n i f (there i 0 f) hi (λ m _ ne. sym (there-other i 0 f ne)), there-same i 0 f)
-
--- so a term is at most the sum
-sum-one : (n i : ℕ) (f : ℕ → ℕ) → i < n → f i ≤ sumBelow n f
-sum-one n i f hi = omega (arith, sum-but n i f hi)
-
--- and so are two together
-sum-two : (n i j : ℕ) (f : ℕ → ℕ) → i < n → j < n → j ≢ i → f i + f j ≤ sumBelow n f
-sum-two n i j f hi hj ne = omega (arith, sum-but n i f hi, there-other i 0 f ne, sum-one n j (there i 0 f) hj)
 
 module _ (r : Series) {n k : ℕ} (hn : n < stationCount) where
   -- a copy of kind k

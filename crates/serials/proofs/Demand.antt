@@ -46,7 +46,8 @@ serials es =
     )
 
 -- a READ by its fields
-read-fields : (es : List Event) (a b c d v : ℕ) → effect (fromEmpty effect es .plant) (fromEmpty effect es .out) (event READ a b c d) .answer ≡ Done v
+read-fields : (es : List Event) (a b c d v : ℕ)
+    → effect (fromEmpty effect es .plant) (fromEmpty effect es .out) (event READ a b c d) .answer ≡ Done v
     → v ≡ readOf (fromEmpty effect es) (event READ a b c d)
 read-fields es a b c d v said =
     let x = fromEmpty effect es in

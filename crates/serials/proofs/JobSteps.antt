@@ -39,7 +39,8 @@ one-more d ds h rest zero l = h
 one-more d ds h rest (suc i) l = rest i (omega arith)
 
 -- draws of locks on series that there are
-draws-known : (t : Copies) (n : ℕ) (ls : List Lock) → ((i : ℕ) → i < length ls → getD ls i noLock .series < seriesCount) → Known (map plain (drawsOn t n ls))
+draws-known : (t : Copies) (n : ℕ) (ls : List Lock) → ((i : ℕ) → i < length ls → getD ls i noLock .series < seriesCount)
+    → Known (map plain (drawsOn t n ls))
 unfolding drawsOn
 draws-known t n [] there = λ i l. absurd (not-suc-le-zero l)
 draws-known t n (l ∷ ls) there =

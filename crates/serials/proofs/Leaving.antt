@@ -26,7 +26,8 @@ pub whole-at : {t : Copies} {s : ℕ} → CopiesWhole t → s < seriesCount → 
 whole-at {s} w l o = record { opens = o; rules = w .opened s l o; isNext = refl }
 
 -- tables whose series and marks are whole
-pub whole-copies : {t : Copies} → ((s : ℕ) → s < seriesCount → SeriesWhole (seriesAt t s)) → ((n : ℕ) → n < stationCount → getD (t .up) n 0 ≤ 1) → CopiesWhole t
+pub whole-copies : {t : Copies} → ((s : ℕ) → s < seriesCount → SeriesWhole (seriesAt t s))
+    → ((n : ℕ) → n < stationCount → getD (t .up) n 0 ≤ 1) → CopiesWhole t
 whole-copies each marks = record { opened = λ s l. each s l .0; closed = λ s l. each s l .1; marks = marks }
 
 -- ---- an operation on one series
@@ -56,7 +57,8 @@ module _ {t t′ : Copies} {s v : ℕ} {r : Series} (w : CopiesWhole t) (e : Lea
       dite (ℕ-discrete i s) (λ q. subst (λ (k : ℕ). Moves k (seriesAt t k) (seriesAt t′ k) []) (sym q) near) (λ ne. elsewhere-moves i l ne)
 
   -- one that keeps its first and its next number
-  pub leaves-next : r .first ≡ seriesAt t s .first → next (seriesAt t s) ≡ v → (i : ℕ) → i < seriesCount → Moves i (seriesAt t i) (seriesAt t′ i) []
+  pub leaves-next : r .first ≡ seriesAt t s .first → next (seriesAt t s) ≡ v → (i : ℕ) → i < seriesCount
+      → Moves i (seriesAt t i) (seriesAt t′ i) []
   leaves-next first same = leaves-moves (moves-same (e .here .first ∙ first) (λ _. here-whole .isNext ∙ sym same))
 
 -- ---- CRASH and RESTART: the series stay

@@ -86,12 +86,14 @@ locked-copy {t} {bs} {j} whole w =
     })
 
 -- a copy that a job locks exclusively is exclusive
-pub locked-exclusive : {t : Copies} {bs : List Job} {j s n : ℕ} → JobsWhole t bs → (w : Locked bs j s n) → lockAt (jobAt bs j) (w .place) .mode ≡ exclusive → kind (seriesAt t s) n ≡ exclusive
+pub locked-exclusive : {t : Copies} {bs : List Job} {j s n : ℕ} → JobsWhole t bs → (w : Locked bs j s n)
+    → lockAt (jobAt bs j) (w .place) .mode ≡ exclusive → kind (seriesAt t s) n ≡ exclusive
 locked-exclusive {j} whole w mode =
     rw (← w .there, ← w .locks .1) (whole j (w .slot) .opened (w .opened) .lock (w .place) (w .within) (w .locks .0) .exclusiveCopy mode)
 
 -- an exclusive lock is alone on its copy
-pub exclusive-alone : {t : Copies} {bs : List Job} {j k s n i : ℕ} → JobsWhole t bs → j < jobCount → OpenJob (jobAt bs j) → i < lockCount → lockAt (jobAt bs j) i .mode ≡ exclusive → lockAt (jobAt bs j) i .series ≡ s → jobAt bs j .station ≡ n → k ≢ j → Locked bs k s n → ⊥
+pub exclusive-alone : {t : Copies} {bs : List Job} {j k s n i : ℕ} → JobsWhole t bs → j < jobCount → OpenJob (jobAt bs j) → i < lockCount
+    → lockAt (jobAt bs j) i .mode ≡ exclusive → lockAt (jobAt bs j) i .series ≡ s → jobAt bs j .station ≡ n → k ≢ j → Locked bs k s n → ⊥
 exclusive-alone {j} {k} {i} whole lt o li mode series station ne w =
     whole j lt .opened o .alone k (w .slot) ne (w .opened) (w .there ∙ sym station) i (w .place) li (w .within) mode
     (w .locks .0, w .locks .1 ∙ sym series)

@@ -44,7 +44,9 @@ abbrev newLock : (s mode : ℕ) → Lock
 newLock s mode = record { series = s; mode = mode; drawn = 0 }
 
 -- it is whole where the series is open and the copy fits its mode
-new-fits : {t : Copies} {n s mode : ℕ} → s < seriesCount → Open (seriesAt t s) → mode ≢ 0 → mode ≤ exclusive → (mode ≡ exclusive → kind (seriesAt t s) n ≡ exclusive) → (mode ≡ share → kind (seriesAt t s) n ≡ share) → LockFits t n (newLock s mode)
+new-fits : {t : Copies} {n s mode : ℕ} → s < seriesCount → Open (seriesAt t s) → mode ≢ 0 → mode ≤ exclusive
+    → (mode ≡ exclusive → kind (seriesAt t s) n ≡ exclusive) → (mode ≡ share → kind (seriesAt t s) n ≡ share)
+    → LockFits t n (newLock s mode)
 new-fits ls opened used few exclusiveCopy shareCopy =
     record {
       used = used;
@@ -57,7 +59,10 @@ new-fits ls opened used few exclusiveCopy shareCopy =
     }
 
 -- an open job with room puts such a lock on a series that it doesn't lock
-lock-jobs : {t : Copies} {bs : List Job} {j s mode : ℕ} → jobCount ≤ length bs → j < jobCount → length (jobAt bs j .locks) ≡ lockCount → OpenJob (jobAt bs j) → locksSeries (jobAt bs j) s ≡ false → isFull (jobAt bs j) ≡ false → LockFits t (jobAt bs j .station) (newLock s mode) → Beside bs j (newLock s mode) → JobsWhole t bs → JobsWhole t (set bs j (withLock (jobAt bs j) s mode))
+lock-jobs : {t : Copies} {bs : List Job} {j s mode : ℕ} → jobCount ≤ length bs → j < jobCount → length (jobAt bs j .locks) ≡ lockCount
+    → OpenJob (jobAt bs j) → locksSeries (jobAt bs j) s ≡ false → isFull (jobAt bs j) ≡ false
+    → LockFits t (jobAt bs j .station) (newLock s mode) → Beside bs j (newLock s mode) → JobsWhole t bs
+    → JobsWhole t (set bs j (withLock (jobAt bs j) s mode))
 unfolding withLock
 lock-jobs {bs} {j} {s} long lt four o none room fits beside =
     put-jobs long lt o
@@ -70,13 +75,18 @@ lock-jobs {bs} {j} {s} long lt four o none room fits beside =
     }) beside
 
 -- LOCKX
-pub lockx-jobs : {t : Copies} {bs : List Job} {j s : ℕ} → jobCount ≤ length bs → j < jobCount → length (jobAt bs j .locks) ≡ lockCount → OpenJob (jobAt bs j) → s < seriesCount → Open (seriesAt t s) → locksSeries (jobAt bs j) s ≡ false → isFull (jobAt bs j) ≡ false → kind (seriesAt t s) (jobAt bs j .station) ≡ exclusive → free bs s (jobAt bs j .station) ≡ true → JobsWhole t bs → JobsWhole t (set bs j (withLock (jobAt bs j) s exclusive))
+pub lockx-jobs : {t : Copies} {bs : List Job} {j s : ℕ} → jobCount ≤ length bs → j < jobCount → length (jobAt bs j .locks) ≡ lockCount
+    → OpenJob (jobAt bs j) → s < seriesCount → Open (seriesAt t s) → locksSeries (jobAt bs j) s ≡ false → isFull (jobAt bs j) ≡ false
+    → kind (seriesAt t s) (jobAt bs j .station) ≡ exclusive → free bs s (jobAt bs j .station) ≡ true → JobsWhole t bs
+    → JobsWhole t (set bs j (withLock (jobAt bs j) s exclusive))
 lockx-jobs {bs} {s} long lt four o ls opened none room copy isFree =
     lock-jobs long lt four o none room (new-fits ls opened (λ e. omega arith) (omega arith) (λ _. copy) (λ e. absurd (omega arith)))
     (λ k ne w _. free-locked bs k s _ isFree w)
 
 -- LOCKS: a share copy has no exclusive lock
-pub locks-jobs : {t : Copies} {bs : List Job} {j s : ℕ} → jobCount ≤ length bs → j < jobCount → length (jobAt bs j .locks) ≡ lockCount → OpenJob (jobAt bs j) → s < seriesCount → Open (seriesAt t s) → locksSeries (jobAt bs j) s ≡ false → isFull (jobAt bs j) ≡ false → kind (seriesAt t s) (jobAt bs j .station) ≡ share → JobsWhole t bs → JobsWhole t (set bs j (withLock (jobAt bs j) s share))
+pub locks-jobs : {t : Copies} {bs : List Job} {j s : ℕ} → jobCount ≤ length bs → j < jobCount → length (jobAt bs j .locks) ≡ lockCount
+    → OpenJob (jobAt bs j) → s < seriesCount → Open (seriesAt t s) → locksSeries (jobAt bs j) s ≡ false → isFull (jobAt bs j) ≡ false
+    → kind (seriesAt t s) (jobAt bs j .station) ≡ share → JobsWhole t bs → JobsWhole t (set bs j (withLock (jobAt bs j) s share))
 locks-jobs long lt four o ls opened none room copy whole =
     lock-jobs long lt four o none room (new-fits ls opened (λ e. omega arith) (omega arith) (λ e. absurd (omega arith)) (λ _. copy))
     (λ k ne w. ⊎-elim (λ e. omega arith) (λ mode. omega (arith, copy, locked-exclusive whole w mode))) whole

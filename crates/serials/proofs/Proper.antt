@@ -79,9 +79,11 @@ module _ {p : Plant} (below : CopiesWhole (p .copies)) (above : JobsWhole (p .co
     jobs-stay = jobs-above (p .copies) t′ (p .jobs) (e .up) all-locked above
 
     -- the step, where the series moves as it should
-    pub proper-copies : (value : ℕ) → ((i : ℕ) → i < seriesCount → Moves i (seriesAt (p .copies) i) (seriesAt t′ i) []) → Proper p (done value (withCopies p t′))
+    pub proper-copies : (value : ℕ) → ((i : ℕ) → i < seriesCount → Moves i (seriesAt (p .copies) i) (seriesAt t′ i) [])
+        → Proper p (done value (withCopies p t′))
     proper-copies value moves = record { copies = leaves-whole below e good; jobs = jobs-stay; moves = moves; known = none-known }
 
     -- one that leaves the series open with its next number
-    pub proper-next : (value : ℕ) → r .first ≡ seriesAt (p .copies) s .first → next (seriesAt (p .copies) s) ≡ v → Proper p (done value (withCopies p t′))
+    pub proper-next : (value : ℕ) → r .first ≡ seriesAt (p .copies) s .first → next (seriesAt (p .copies) s) ≡ v
+        → Proper p (done value (withCopies p t′))
     proper-next value first same = proper-copies value (leaves-next below e good first same)

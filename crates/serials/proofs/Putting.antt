@@ -57,7 +57,8 @@ module _ {t : Copies} {b : Job} {i : ℕ} {l : Lock} (put : Puttable t b i l) wh
         }
 
     -- no earlier place than k is on its series
-    put-differs : (k m : ℕ) → k < lockCount → m < k → Used (putLock b i l) k → Locks (putLock b i l) (lockAt (putLock b i l) k .series) m → ⊥
+    put-differs : (k m : ℕ) → k < lockCount → m < k → Used (putLock b i l) k → Locks (putLock b i l) (lockAt (putLock b i l) k .series) m
+        → ⊥
     put-differs k m lk lt =
         place-cases (λ (x : Lock). x .mode ≢ 0 → (lockAt (putLock b i l) m .mode ≢ 0) × (lockAt (putLock b i l) m .series ≡ x .series) → ⊥) k
         (λ e _. place-cases (λ (y : Lock). (y .mode ≢ 0) × (y .series ≡ l .series) → ⊥) m
@@ -111,7 +112,8 @@ Beside bs j l =
     (k : ℕ) → k ≢ j → (w : Locked bs k (l .series) (jobAt bs j .station)) → (l .mode ≡ exclusive) ⊎ (lockAt (jobAt bs k) (w .place) .mode ≡ exclusive) → ⊥
 
 -- THE LAW of a lock that an open job puts
-pub put-jobs : {t : Copies} {bs : List Job} {j i : ℕ} {l : Lock} → jobCount ≤ length bs → j < jobCount → OpenJob (jobAt bs j) → Puttable t (jobAt bs j) i l → Beside bs j l → JobsWhole t bs → JobsWhole t (set bs j (putLock (jobAt bs j) i l))
+pub put-jobs : {t : Copies} {bs : List Job} {j i : ℕ} {l : Lock} → jobCount ≤ length bs → j < jobCount → OpenJob (jobAt bs j)
+    → Puttable t (jobAt bs j) i l → Beside bs j l → JobsWhole t bs → JobsWhole t (set bs j (putLock (jobAt bs j) i l))
 put-jobs {t} {bs} {j} {i} {l} long lt o put beside whole =
     job-put long lt (put-own put o (slot-own (whole j lt))) (λ k lk ne _ ok. (new k lk ne ok, old k lk ne ok)) whole
   where

@@ -15,7 +15,7 @@ use Rattle.words.specs.Numbers.{stationCount}
 use Rattle.words.specs.Tests.{non, _and_, someBelow}
 use Rattle.words.proofs.Laws.{both-true}
 use Rattle.words.proofs.Reflects.{reflects-eq, reflects-not, reflects-and, reflects-none}
-use Rattle.copies.specs.Tables.{Series, seriesAt, isOpen, value, held, undelivered, isUp, relTo}
+use Rattle.copies.specs.Tables.{Series, isOpen, value, held, undelivered, isUp, relTo}
 use Rattle.copies.specs.Facts.{Open, Held, Undelivered}
 use Rattle.copies.proofs.Tokens.{held-reflects, undelivered-reflects}
 use Rattle.rulebook.specs.declared.Event.{Event}
@@ -23,7 +23,7 @@ use Rattle.rulebook.specs.Run.{Machine, Run, fromEmpty}
 use Rattle.rulebook.proofs.Walked.{wholeWalked, whole-walked, effectWalked, same-machine}
 use Rattle.rulebook.proofs.Computes.{computes}
 use Rattle.serials.specs.Draws.{Drawn, drawsIn, drawsShown, countIn, Belongs}
-use Rattle.serials.specs.Serials.{Serials, OpenOnce, OnlyOpen}
+use Rattle.serials.specs.Serials.{Serials, seriesAfter, OpenOnce, OnlyOpen}
 use Rattle.serials.specs.Reads.{Reads, readOf}
 use Rattle.serials.specs.StaysWhole.{StaysWhole}
 use Rattle.serials.specs.NothingLost.{NothingLost, TokenKept, Deliverable, message}
@@ -34,10 +34,6 @@ use Rattle.serials.specs.RuledOut.{RulesOut, RuledOut}
 -- what is false of the machine that antt can compute, with a change, is false of the rulebook's with that change
 by-walking : (statement : Machine → Type 0) (change : Machine → Machine) → (statement (change effectWalked) → ⊥) → RulesOut statement change
 by-walking statement change fails holds = fails (subst (λ (m : Machine). statement (change m)) same-machine holds)
-
--- series 0 at the end of a run
-abbrev seriesOf : Run → Series
-seriesOf x = seriesAt (x .plant .copies) 0
 
 -- ---- the serials
 -- a draw of serial 1 alone
@@ -71,9 +67,9 @@ two-values-facts r =
     .0
 
 -- then no number is the series' next
-said-twice : (x : Run) → twoValues (seriesOf x) ≡ true → OpenOnce x → ⊥
+said-twice : (x : Run) → twoValues (seriesAfter x 0) ≡ true → OpenOnce x → ⊥
 said-twice x differ once =
-    let facts = two-values-facts (seriesOf x) differ in
+    let facts = two-values-facts (seriesAfter x 0) differ in
     let next = once 0 (omega arith) (facts .0 .0 .0) .1 in
     facts .1 (next .ofCopies 0 (omega arith) (facts .0 .0 .1) ∙ sym (next .ofCopies 1 (omega arith) (facts .0 .1)))
 
@@ -88,7 +84,7 @@ no-unstored =
     by-walking Serials commitUnstored (λ holds. issued-twice (fromEmpty (commitUnstored effectWalked) twoJobs) commit-computed (holds twoJobs))
 
 -- the token is then at both stations, with an old value at station 1
-grant-computed : twoValues (seriesOf (fromEmpty (grantByToken effectWalked) comesAgain)) ≡ true
+grant-computed : twoValues (seriesAfter (fromEmpty (grantByToken effectWalked) comesAgain) 0) ≡ true
 unfolding computes instead twoValues comesAgain
 grant-computed = refl
 
@@ -167,13 +163,13 @@ lost-facts r =
     .0
 
 -- then its token is not kept
-token-lost : (x : Run) → isLost (seriesOf x) ≡ true → TokenKept x → ⊥
+token-lost : (x : Run) → isLost (seriesAfter x 0) ≡ true → TokenKept x → ⊥
 token-lost x lost kept =
-    let facts = lost-facts (seriesOf x) lost in
+    let facts = lost-facts (seriesAfter x 0) lost in
     ⊎-elim (λ w. facts .0 .1 (w .0) (w .1) (w .2)) (λ w. facts .1 (w .0) (w .1) (w .2)) (kept 0 (omega arith) (facts .0 .0))
 
 -- no token is left
-drop-computed : isLost (seriesOf (fromEmpty (dropLast effectWalked) onlyShare)) ≡ true
+drop-computed : isLost (seriesAfter (fromEmpty (dropLast effectWalked) onlyShare) 0) ≡ true
 unfolding computes instead onlyShare isLost
 drop-computed = refl
 
@@ -183,7 +179,7 @@ no-last-drop =
     by-walking NothingLost dropLast (λ holds. token-lost (fromEmpty (dropLast effectWalked) onlyShare) drop-computed (holds onlyShare .0))
 
 -- no token is left
-restart-computed : isLost (seriesOf (fromEmpty (restartVoids effectWalked) backBeforeAck)) ≡ true
+restart-computed : isLost (seriesAfter (fromEmpty (restartVoids effectWalked) backBeforeAck) 0) ≡ true
 unfolding computes instead voidReleased backBeforeAck isLost
 restart-computed = refl
 
@@ -196,9 +192,9 @@ no-voiding-restart =
 -- station 1's transfer is undelivered and its receiver is up, but its message gets value 0
 unfoldable missed : Machine → Run → Bool
 missed m x =
-    undelivered (seriesOf x) 1
-    and isUp (x .plant .copies) (relTo (seriesOf x) 1)
-    and eqb (valueOf (m (x .plant) (x .out) (message (seriesOf x) 0 1) .answer)) 0
+    undelivered (seriesAfter x 0) 1
+    and isUp (x .plant .copies) (relTo (seriesAfter x 0) 1)
+    and eqb (valueOf (m (x .plant) (x .out) (message (seriesAfter x 0) 0 1) .answer)) 0
 
 -- then it can't arrive
 not-delivered : (m : Machine) (x : Run) → missed m x ≡ true → Deliverable m x → ⊥
@@ -206,7 +202,7 @@ unfolding missed
 not-delivered m x computed holds =
     let all = both-true _ _ computed in
     let two = both-true _ _ (all .0) in
-    let told = holds 0 1 (omega arith) (omega arith) (undelivered-reflects (seriesOf x) 1 .0 (two .0)) (two .1) in
+    let told = holds 0 1 (omega arith) (omega arith) (undelivered-reflects (seriesAfter x 0) 1 .0 (two .0)) (two .1) in
     omega (arith, sym (ap (λ (a : Answer). valueOf a) told) ∙ eqb-true _ _ (all .1))
 
 -- station 0 holds a share, so the message is taken for a repeat

@@ -91,7 +91,8 @@ module _ (out : List ℕ) where
   each-refused = omega arith
 
   -- any step's answer line shows its draws
-  pub tells : (p : Plant) (e : Event) → FourPlaces (p .jobs) → drawsIn (replyTo e (outcome out (effect p out e)) .numbers) ≡ map plain (effect p out e .draws)
+  pub tells : (p : Plant) (e : Event) → FourPlaces (p .jobs)
+      → drawsIn (replyTo e (outcome out (effect p out e)) .numbers) ≡ map plain (effect p out e .draws)
   unfolding Tells effect
   tells p e four =
       judged-answers (λ x. length (x .draws) ≤ lockCount → Tells e x) Refused (refusals out) p e each-refused

@@ -19,7 +19,8 @@ use Rattle.serials.proofs.Locked.{Locked, SameCopy}
 
 -- ---- one entry put
 -- what is shown of the new entry at its place, and of the old ones elsewhere, is shown of each
-pub put-cases : {A : Type 0} (P : A → Type 0) (l : List A) (i : ℕ) (a d : A) (k : ℕ) → i < length l → (k ≡ i → P a) → (k ≢ i → P (getD l k d)) → P (getD (set l i a) k d)
+pub put-cases : {A : Type 0} (P : A → Type 0) (l : List A) (i : ℕ) (a d : A) (k : ℕ) → i < length l → (k ≡ i → P a)
+    → (k ≢ i → P (getD l k d)) → P (getD (set l i a) k d)
 put-cases P l i a d k lt same other =
     dite (ℕ-discrete k i) (λ e. rw (e, getD-set-same l i a d lt) (same e)) (λ ne. rw (getD-set-other l i k a d ne) (other ne))
 
@@ -44,7 +45,8 @@ slot-own w =
     }
 
 -- slots are whole where each is by itself, and the exclusive locks of each open job are apart from the others' locks
-pub slots-whole : {t : Copies} {bs : List Job} → ((j : ℕ) → j < jobCount → OwnWhole t (jobAt bs j)) → ((j k : ℕ) → j < jobCount → k < jobCount → k ≢ j → OpenJob (jobAt bs j) → Apart (jobAt bs j) (jobAt bs k)) → JobsWhole t bs
+pub slots-whole : {t : Copies} {bs : List Job} → ((j : ℕ) → j < jobCount → OwnWhole t (jobAt bs j))
+    → ((j k : ℕ) → j < jobCount → k < jobCount → k ≢ j → OpenJob (jobAt bs j) → Apart (jobAt bs j) (jobAt bs k)) → JobsWhole t bs
 slots-whole own apart j l =
     let w = own j l in
     record {
@@ -68,7 +70,8 @@ bare-unused : (mark n i : ℕ) → i < lockCount → Used (withoutLock mark n) i
 bare-unused mark n i l used = used (ap (λ (x : Lock). x .mode) (bare-place mark n i l))
 
 -- it is whole by itself: at a station that is up if it is open, and at station 0 if it isn't
-bare-own : (t : Copies) (mark n : ℕ) → mark ≤ 1 → n < stationCount → (mark ≡ 1 → getD (t .up) n 0 ≡ 1) → (mark ≡ 0 → n ≡ 0) → OwnWhole t (withoutLock mark n)
+bare-own : (t : Copies) (mark n : ℕ) → mark ≤ 1 → n < stationCount → (mark ≡ 1 → getD (t .up) n 0 ≡ 1) → (mark ≡ 0 → n ≡ 0)
+    → OwnWhole t (withoutLock mark n)
 bare-own t mark n few lt up none =
     record {
       range = record {
@@ -95,7 +98,8 @@ closed-own t = bare-own t 0 0 (omega arith) (omega arith) (λ e. absurd (omega a
 
 -- ---- jobs that close or stay
 -- a lock is whole above another copy that reads the same
-lock-above : (t t′ : Copies) (b : Job) (i : ℕ) → SameCopy (lockedSeries t b i) (lockedSeries t′ b i) (b .station) → LockWhole t b i → LockWhole t′ b i
+lock-above : (t t′ : Copies) (b : Job) (i : ℕ) → SameCopy (lockedSeries t b i) (lockedSeries t′ b i) (b .station) → LockWhole t b i
+    → LockWhole t′ b i
 lock-above t t′ b i same w =
     record {
       opened = λ e. w .opened (sym (same .sameFirst) ∙ e);
@@ -107,7 +111,9 @@ lock-above t t′ b i same w =
     }
 
 -- and so is a job, at a station that is up
-own-above : (t t′ : Copies) (b : Job) → (OpenJob b → getD (t′ .up) (b .station) 0 ≡ 1) → (OpenJob b → (i : ℕ) → i < lockCount → Used b i → SameCopy (lockedSeries t b i) (lockedSeries t′ b i) (b .station)) → OwnWhole t b → OwnWhole t′ b
+own-above : (t t′ : Copies) (b : Job) → (OpenJob b → getD (t′ .up) (b .station) 0 ≡ 1)
+    → (OpenJob b → (i : ℕ) → i < lockCount → Used b i → SameCopy (lockedSeries t b i) (lockedSeries t′ b i) (b .station)) → OwnWhole t b
+    → OwnWhole t′ b
 own-above t t′ b up same w =
     record {
       range = w .range;
@@ -135,7 +141,8 @@ abbrev pub StaysOrCloses : Copies → List Job → Copies → List Job → ℕ �
 StaysOrCloses t bs t′ cs j = (jobAt cs j ≡ noJob) ⊎ Stays t bs t′ cs j
 
 -- THE LAW of jobs that close or stay, above copies of which those that are still locked stay
-pub jobs-kept : (t t′ : Copies) (bs cs : List Job) → ((j : ℕ) → j < jobCount → StaysOrCloses t bs t′ cs j) → JobsWhole t bs → JobsWhole t′ cs
+pub jobs-kept : (t t′ : Copies) (bs cs : List Job) → ((j : ℕ) → j < jobCount → StaysOrCloses t bs t′ cs j) → JobsWhole t bs
+    → JobsWhole t′ cs
 jobs-kept t t′ bs cs how whole =
     slots-whole (λ j l. ⊎-elim (λ e. rw e (closed-own t′)) (stays j l) (how j l))
     (λ j k l m ne. kept-apart (either j (how j l)) (either k (how k m)) (λ o. whole j l .opened o .alone k m ne))
@@ -151,12 +158,14 @@ jobs-kept t t′ bs cs how whole =
     either j w = ⊎-elim (λ e. inl e) (λ x. inr (x .0)) w
 
 -- no slot changes
-pub jobs-above : (t t′ : Copies) (bs : List Job) → t′ .up ≡ t .up → ((j s n : ℕ) → Locked bs j s n → SameCopy (seriesAt t s) (seriesAt t′ s) n) → JobsWhole t bs → JobsWhole t′ bs
+pub jobs-above : (t t′ : Copies) (bs : List Job) → t′ .up ≡ t .up
+    → ((j s n : ℕ) → Locked bs j s n → SameCopy (seriesAt t s) (seriesAt t′ s) n) → JobsWhole t bs → JobsWhole t′ bs
 jobs-above t t′ bs up same whole =
     jobs-kept t t′ bs bs (λ j l. inr (refl, λ o. rw up (whole j l .opened o .stationUp), same j)) whole
 
 -- COMMIT, ABORT: slot j closes
-pub close-above : (t t′ : Copies) (bs : List Job) (j : ℕ) → jobCount ≤ length bs → j < jobCount → t′ .up ≡ t .up → ((k s n : ℕ) → k ≢ j → Locked bs k s n → SameCopy (seriesAt t s) (seriesAt t′ s) n) → JobsWhole t bs → JobsWhole t′ (set bs j noJob)
+pub close-above : (t t′ : Copies) (bs : List Job) (j : ℕ) → jobCount ≤ length bs → j < jobCount → t′ .up ≡ t .up
+    → ((k s n : ℕ) → k ≢ j → Locked bs k s n → SameCopy (seriesAt t s) (seriesAt t′ s) n) → JobsWhole t bs → JobsWhole t′ (set bs j noJob)
 close-above t t′ bs j long lt up same whole =
     jobs-kept t t′ bs (set bs j noJob)
     (λ k l. dite (ℕ-discrete k j)
@@ -165,7 +174,9 @@ close-above t t′ bs j long lt up same whole =
 
 -- ---- one slot that holds another job
 -- THE LAW of it: the job is whole by itself, and its locks and those of each other open job are apart
-pub job-put : {t : Copies} {bs : List Job} {j : ℕ} {b : Job} → jobCount ≤ length bs → j < jobCount → OwnWhole t b → ((k : ℕ) → k < jobCount → k ≢ j → OpenJob b → OpenJob (jobAt bs k) → Apart b (jobAt bs k) × Apart (jobAt bs k) b) → JobsWhole t bs → JobsWhole t (set bs j b)
+pub job-put : {t : Copies} {bs : List Job} {j : ℕ} {b : Job} → jobCount ≤ length bs → j < jobCount → OwnWhole t b
+    → ((k : ℕ) → k < jobCount → k ≢ j → OpenJob b → OpenJob (jobAt bs k) → Apart b (jobAt bs k) × Apart (jobAt bs k) b) → JobsWhole t bs
+    → JobsWhole t (set bs j b)
 job-put {t} {bs} {j} {b} long lt own apart whole =
     slots-whole (λ i l. put-cases (OwnWhole t) bs j b noSlot i (omega arith) (λ _. own) (λ _. slot-own (whole i l)))
     (λ i k li lk ne. put-cases (λ (x : Job). OpenJob x → Apart x (jobAt (set bs j b) k)) bs j b noSlot i (omega arith)
@@ -179,7 +190,8 @@ job-put {t} {bs} {j} {b} long lt own apart whole =
         put-cases (Apart (jobAt bs i)) bs j b noSlot k (omega arith) (λ _ q. apart i li ni q o .1 q) (λ _. whole i li .opened o .alone k lk ne)
 
 -- BEGIN
-pub begin-jobs : {t : Copies} {bs : List Job} {j n : ℕ} → jobCount ≤ length bs → j < jobCount → n < stationCount → getD (t .up) n 0 ≡ 1 → JobsWhole t bs → JobsWhole t (set bs j (begun n))
+pub begin-jobs : {t : Copies} {bs : List Job} {j n : ℕ} → jobCount ≤ length bs → j < jobCount → n < stationCount → getD (t .up) n 0 ≡ 1
+    → JobsWhole t bs → JobsWhole t (set bs j (begun n))
 unfolding begun
 begin-jobs {t} {bs} {n} long lt ln up =
     job-put long lt (bare-own t 1 n (omega arith) ln (λ _. up) (λ e. absurd (omega arith))) (λ k l ne o q. bare-apart 1 n (jobAt bs k))

@@ -29,7 +29,8 @@ module _ {t t′ : Copies} {n mark : ℕ} (marks : Marks t t′ n mark) where
   marks-up {m} ne up = marks .elsewhere m ne ∙ up
 
 -- a slot after a crash: closed, or of a job at another station
-crash-slot : {t t′ : Copies} {bs : List Job} {n j : ℕ} → Marks t t′ n 0 → JobsWhole t bs → j < jobCount → (a : Bool) → jobThere (jobAt bs j) n ≡ a → StaysOrCloses t bs t′ (closedAt n bs) j
+crash-slot : {t t′ : Copies} {bs : List Job} {n j : ℕ} → Marks t t′ n 0 → JobsWhole t bs → j < jobCount → (a : Bool)
+    → jobThere (jobAt bs j) n ≡ a → StaysOrCloses t bs t′ (closedAt n bs) j
 unfolding closedAt
 crash-slot {bs} {n} {j} marks whole l true e = inl (close-at n jobCount bs j l ∙ rw e)
 crash-slot {bs} {n} {j} marks whole l false e =

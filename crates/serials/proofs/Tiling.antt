@@ -73,7 +73,8 @@ no-other (other x c) n zero k w = absurd (x (w .ofSeries))
 no-other (other x c) n (suc i) k w = no-other c n i k (belongs-earlier w)
 
 -- a serial of the first draw belongs to no later one
-first-only : {s a b n k j m : ℕ} {d : Drawn} {ds : List Drawn} → d .first ≡ a → Chain s (a + d .count) ds b → Belongs (d ∷ ds) s n 0 k → Belongs ds s n j m → ⊥
+first-only : {s a b n k j m : ℕ} {d : Drawn} {ds : List Drawn} → d .first ≡ a → Chain s (a + d .count) ds b → Belongs (d ∷ ds) s n 0 k
+    → Belongs ds s n j m → ⊥
 first-only {n} {j} {m} e c v w =
     let place = v .isPlace in
     let is = v .stands in

@@ -9,10 +9,9 @@ use Rattle.copies.specs.Tables.{Series, next}
 use Rattle.copies.specs.Facts.{Open, W1At, OneToken, Agrees, W3At, W5At, OpenWhole}
 use Rattle.copies.proofs.Same.{Same, same-back}
 use Rattle.copies.proofs.Reflect.{Each, Bounds}
-use Rattle.copies.proofs.Tokens.{next-is}
+use Rattle.copies.proofs.Tokens.{next-is, TokenOf, tokens-some}
 use Rattle.copies.proofs.Agree.{next-same, whole-same}
 use Rattle.serials.specs.Serials.{SomeToken, IsNext}
-use Rattle.serials.proofs.Counting.{TokenOf, tokens-some}
 
 -- Series r is open and whole (W1 to W3, W5), and v is its next number.
 pub record WholeAt (r : Series) (v : ℕ) : Type 0 where

@@ -6,7 +6,7 @@ use mathlib.Core.Bool.{cond}
 use mathlib.Core.List.{List, [], _∷_, _++_}
 use lib.Dec.{eqb}
 use lib.ListN.{getD, length}
-use Rattle.rulebook.specs.Run.{Reply}
+use Rattle.rulebook.specs.Run.{Reply, Run}
 
 -- A committed draw: the serials of a series from the first on, as many as the count.
 pub record Drawn : Type 0 where
@@ -25,6 +25,10 @@ drawsIn (s ∷ f ∷ c ∷ rest) = record { series = s; first = f; count = c } �
 unfoldable pub drawsShown : List Reply → List Drawn
 drawsShown [] = []
 drawsShown (a ∷ rest) = drawsIn (a .numbers) ++ drawsShown rest
+
+-- so far, at the end of a run
+abbrev pub drawsAfter : Run → List Drawn
+drawsAfter x = drawsShown (x .replies)
 
 -- draw i of a list
 abbrev pub drawAt : List Drawn → ℕ → Drawn

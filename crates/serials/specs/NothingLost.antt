@@ -6,17 +6,17 @@ use mathlib.Core.Bool.{true}
 use mathlib.Core.List.{List}
 use Rattle.words.specs.declared.Answer.the-variants.{Done}
 use Rattle.words.specs.Numbers.{stationCount, seriesCount}
-use Rattle.copies.specs.Tables.{Series, seriesAt, isUp, relTo, sentCount}
+use Rattle.copies.specs.Tables.{Series, isUp, relTo, sentCount}
 use Rattle.copies.specs.Facts.{Open, Undelivered}
 use Rattle.rulebook.specs.declared.Event.{Event}
 use Rattle.rulebook.specs.Events.{GRANT}
 use Rattle.rulebook.specs.Edges.{event}
 use Rattle.rulebook.specs.Run.{Machine, Run, fromEmpty}
-use Rattle.serials.specs.Serials.{SomeToken}
+use Rattle.serials.specs.Serials.{SomeToken, seriesAfter}
 
 -- of every open series there is a token, held or under way
 abbrev pub TokenKept : Run → Type 0
-TokenKept x = (s : ℕ) → s < seriesCount → Open (seriesAt (x .plant .copies) s) → SomeToken (seriesAt (x .plant .copies) s)
+TokenKept x = (s : ℕ) → s < seriesCount → Open (seriesAfter x s) → SomeToken (seriesAfter x s)
 
 -- the message that brings station from's transfer of series s: a GRANT to its receiver, of its number
 abbrev pub message : Series → (s from : ℕ) → Event
@@ -25,9 +25,9 @@ message r s from = event GRANT s from (relTo r from) (sentCount r from)
 -- an undelivered transfer whose receiver is up can arrive: its GRANT is accepted with value 1
 abbrev pub Deliverable : Machine → Run → Type 0
 Deliverable m x =
-    (s from : ℕ) → s < seriesCount → from < stationCount → Undelivered (seriesAt (x .plant .copies) s) from
-    → isUp (x .plant .copies) (relTo (seriesAt (x .plant .copies) s) from) ≡ true
-    → m (x .plant) (x .out) (message (seriesAt (x .plant .copies) s) s from) .answer ≡ Done 1
+    (s from : ℕ) → s < seriesCount → from < stationCount → Undelivered (seriesAfter x s) from
+    → isUp (x .plant .copies) (relTo (seriesAfter x s) from) ≡ true
+    → m (x .plant) (x .out) (message (seriesAfter x s) s from) .answer ≡ Done 1
 
 -- THE STATEMENT: so it is after any list of events from the empty plant.
 abbrev pub NothingLost : Machine → Type 0

@@ -8,13 +8,13 @@ use Rattle.jobs.specs.Job.{lockOn}
 use Rattle.rulebook.specs.declared.Event.{Event}
 use Rattle.rulebook.specs.Events.{READ, aSeries, the, theSeries, theJob}
 use Rattle.rulebook.specs.Run.{Run, Machine, fromEmpty}
-use Rattle.serials.specs.Draws.{drawsShown, countIn}
+use Rattle.serials.specs.Draws.{drawsAfter, countIn}
 
 -- what a READ is to return at the end of a run
 abbrev pub readOf : Run → Event → ℕ
 readOf x e =
     theSeries (x .plant) e .first
-    + countIn (the aSeries e) (drawsShown (x .replies))
+    + countIn (the aSeries e) (drawsAfter x)
     + lockOn (theJob (x .plant) e) (the aSeries e) .drawn
 
 -- THE STATEMENT: after any list of events from the empty plant, a READ that is accepted with value v has that value.

@@ -10,7 +10,7 @@ use Rattle.copies.specs.Tables.{Series, seriesAt, value, relValue}
 use Rattle.copies.specs.Facts.{Open, Held, Undelivered}
 use Rattle.rulebook.specs.declared.Event.{Event}
 use Rattle.rulebook.specs.Run.{Run, Machine, fromEmpty}
-use Rattle.serials.specs.Draws.{Drawn, drawsShown, drawAt, Belongs}
+use Rattle.serials.specs.Draws.{Drawn, drawsAfter, drawAt, Belongs}
 
 -- there is a token of the series: a copy is held, or a transfer is undelivered
 abbrev pub SomeToken : Series → Type 0
@@ -30,20 +30,21 @@ pub record EachOnce (ds : List Drawn) (s first next : ℕ) : Type 0 where
   pub once : (n i k j m : ℕ) → Belongs ds s n i k → Belongs ds s n j m → (i ≡ j) × (k ≡ m)
   pub noOther : (n i k : ℕ) → Belongs ds s n i k → (first ≤ n) × (n < next)
 
--- of every open series at the end of a run
+-- series s at the end of a run
+abbrev pub seriesAfter : Run → ℕ → Series
+seriesAfter x s = seriesAt (x .plant .copies) s
+
+-- so it is of every open series, up to its next number
 abbrev pub OpenOnce : Run → Type 0
 OpenOnce x =
-    (s : ℕ) → s < seriesCount → Open (seriesAt (x .plant .copies) s)
-    → (next : ℕ)
-    × IsNext (seriesAt (x .plant .copies) s) next
-    × EachOnce (drawsShown (x .replies)) s (seriesAt (x .plant .copies) s .first) next
+    (s : ℕ) → s < seriesCount → Open (seriesAfter x s)
+    → (next : ℕ) × IsNext (seriesAfter x s) next × EachOnce (drawsAfter x) s (seriesAfter x s .first) next
 
 -- and no draw belongs to a series that isn't open
 abbrev pub OnlyOpen : Run → Type 0
 OnlyOpen x =
-    (i : ℕ) → i < length (drawsShown (x .replies))
-    → (drawAt (drawsShown (x .replies)) i .series < seriesCount)
-    × Open (seriesAt (x .plant .copies) (drawAt (drawsShown (x .replies)) i .series))
+    (i : ℕ) → i < length (drawsAfter x)
+    → (drawAt (drawsAfter x) i .series < seriesCount) × Open (seriesAfter x (drawAt (drawsAfter x) i .series))
 
 -- THE STATEMENT: so it is after any list of events from the empty plant.
 abbrev pub Serials : Machine → Type 0

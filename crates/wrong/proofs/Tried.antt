@@ -11,12 +11,12 @@ use Rattle.words.specs.Tests.{_and_}
 use Rattle.words.proofs.Laws.{both-true}
 use Rattle.rulebook.specs.declared.Event.{Event}
 use Rattle.rulebook.specs.Events.{RESTART}
-use Rattle.rulebook.specs.Edges.{event, gives, linesOf}
+use Rattle.rulebook.specs.Edges.{event, linesOf}
 use Rattle.rulebook.specs.Run.{Machine, fromEmpty}
 use Rattle.rulebook.proofs.Walked.{effectWalked, same-machine}
 use Rattle.rulebook.proofs.Computes.{computes}
 use Rattle.wrong.specs.Machines.{instead, voidReleased}
-use Rattle.wrong.specs.Tried.{reads, locks, draw, twoJobs, comesAgain, ownDraw, drawnThere, shareUnderWay, crashes, onlyShare, backBeforeAck, changed, Gives, TriesRight}
+use Rattle.wrong.specs.Tried.{reads, locks, twoJobs, comesAgain, ownDraw, drawnThere, shareUnderWay, crashes, onlyShare, backBeforeAck, changed, Gives, TriesRight}
 
 -- ---- equality as a test, so that a difference is told at once
 -- two lists have the same entries, as the test of entries says
@@ -43,51 +43,16 @@ answers es lines = sameList (sameList eqb) (linesOf (fromEmpty (changed effectWa
 by-walking : (es : List Event) (lines : List (List ℕ)) → answers es lines ≡ true → Gives es lines
 by-walking es lines e = ap (λ (m : Machine). linesOf (fromEmpty (changed m) es)) same-machine ∙ same-list (sameList eqb) (same-list eqb eqb-true) _ lines e
 
--- ---- the serials
-two-jobs : answers twoJobs (gives 0 0 ∷ gives 0 0 ∷ gives 0 0 ∷ gives 0 0 ∷ draw 1 ∷ gives 0 0 ∷ gives 0 0 ∷ gives 0 0 ∷ draw 2 ∷ []) ≡ true
-unfolding computes instead sameList twoJobs
-two-jobs = refl
-
-comes-again : answers comesAgain (gives 0 0 ∷ gives 0 1 ∷ gives 0 1 ∷ gives 0 1 ∷ gives 0 1 ∷ gives 0 0 ∷ gives 0 0 ∷ gives 0 0 ∷ draw 1 ∷ gives 0 0 ∷ []) ≡ true
-unfolding computes instead sameList comesAgain
-comes-again = refl
-
--- ---- the reads
-own-draw : answers (ownDraw ++ reads ∷ []) (gives 0 0 ∷ gives 0 0 ∷ gives 0 0 ∷ gives 0 0 ∷ gives 0 2 ∷ []) ≡ true
-unfolding computes instead sameList ownDraw
-own-draw = refl
-
-drawn-there : answers (drawnThere ++ reads ∷ []) (gives 0 0 ∷ gives 0 1 ∷ gives 0 1 ∷ gives 0 0 ∷ gives 0 0 ∷ gives 0 0 ∷ draw 1 ∷ gives 0 0 ∷ gives 0 0 ∷ gives 0 2 ∷ []) ≡ true
-unfolding computes instead sameList drawnThere
-drawn-there = refl
-
--- ---- whole tables
-share-under-way : answers shareUnderWay (gives 0 0 ∷ gives 0 0 ∷ gives 0 1 ∷ gives 17 0 ∷ []) ≡ true
-unfolding computes instead sameList shareUnderWay
-share-under-way = refl
-
-crash-and-restart : answers (crashes ++ event RESTART 0 0 0 0 ∷ []) (gives 0 0 ∷ gives 0 1 ∷ gives 0 0 ∷ []) ≡ true
-unfolding computes instead sameList crashes
-crash-and-restart = refl
-
--- ---- nothing is lost
-only-share : answers onlyShare (gives 0 0 ∷ gives 0 0 ∷ gives 17 0 ∷ []) ≡ true
-unfolding computes instead sameList onlyShare
-only-share = refl
-
-back-before-ack : answers (backBeforeAck ++ locks 0 []) (gives 0 0 ∷ gives 0 1 ∷ gives 0 1 ∷ gives 0 1 ∷ gives 0 1 ∷ gives 0 0 ∷ gives 0 1 ∷ gives 0 0 ∷ gives 0 0 ∷ []) ≡ true
-unfolding computes instead sameList voidReleased backBeforeAck
-back-before-ack = refl
-
--- all of them
+-- list by list
 pub tries-right : TriesRight
+unfolding computes instead voidReleased sameList twoJobs comesAgain ownDraw drawnThere shareUnderWay crashes onlyShare backBeforeAck
 tries-right = (
-  by-walking _ _ two-jobs,
-  by-walking _ _ comes-again,
-  by-walking _ _ own-draw,
-  by-walking _ _ drawn-there,
-  by-walking _ _ share-under-way,
-  by-walking _ _ crash-and-restart,
-  by-walking _ _ only-share,
-  by-walking _ _ back-before-ack,
+  by-walking twoJobs _ refl,
+  by-walking comesAgain _ refl,
+  by-walking (ownDraw ++ reads ∷ []) _ refl,
+  by-walking (drawnThere ++ reads ∷ []) _ refl,
+  by-walking shareUnderWay _ refl,
+  by-walking (crashes ++ event RESTART 0 0 0 0 ∷ []) _ refl,
+  by-walking onlyShare _ refl,
+  by-walking (backBeforeAck ++ locks 0 []) _ refl,
 )
