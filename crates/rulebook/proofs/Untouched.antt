@@ -4,11 +4,13 @@ use Prim.Native.Nat.{ℕ, zero, suc, _+_, _-_, _*_, _≤_, _<_}
 use native.Mathlib.Omega.{arith}
 use mathlib.Core.Path.{_≡_, refl, sym, ap, _∙_}
 use mathlib.Core.List.{List, [], _∷_}
-use lib.Dec.{eqb}
+use mathlib.Core.Bool.{Bool}
+use lib.Dec.{eqb, ltb}
 use lib.ListN.{getD, length, drop, set, replicate, length-drop, length-set, length-replicate}
 use lib.Seq.{sets, ext-getD, getD-drop, drop-set-lt, length-sets}
 use Rattle.words.specs.Numbers.{stationCount, seriesCount, jobCount, placeCount, receivedCount}
-use Rattle.copies.specs.Tables.{Copies}
+use Rattle.words.specs.Tests.{_or_}
+use Rattle.copies.specs.Tables.{Copies, shortCopies}
 use Rattle.copies.proofs.Long.{Long}
 use Rattle.copies.proofs.Columns.{OnlyBelow}
 use Rattle.copies.proofs.Leaves.{OnlyStated, only-long}
@@ -16,9 +18,9 @@ use Rattle.copies.proofs.After.{after-raised}
 use Rattle.jobs.specs.declared.Lock.{Lock}
 use Rattle.jobs.specs.declared.Job.{Job}
 use Rattle.jobs.specs.Job.{noLock}
-use Rattle.jobs.specs.Slots.{closeFirst, closedAt}
+use Rattle.jobs.specs.Slots.{shortJobs, closeFirst, closedAt}
 use Rattle.jobs.specs.Draws.{Draw, drawsOn, committed, shown}
-use Rattle.rulebook.specs.Tables.{Plant, plant}
+use Rattle.rulebook.specs.Tables.{Plant, plant, shortTables}
 use Rattle.rulebook.specs.Keeps.{extraCopies, extra, copiesLengths, lengths, SameExtra}
 use Rattle.rulebook.proofs.Judging.{cond-cases}
 
@@ -166,3 +168,27 @@ slots-closed n bs = record { count = close-length n jobCount bs; extra = close-d
 pub plant-same : (p q : Plant) → SameCopies (p .copies) (q .copies) → SameSlots (p .jobs) (q .jobs) → SameExtra p q
 unfolding lengths extra
 plant-same p q below above = (λ x. above .count x ∷ below .lengths x, λ x. plant (below .extra x) (above .extra x))
+
+-- whether a table is short goes by the lengths
+short-by : List ℕ → Bool
+short-by ls =
+    ltb (getD ls 1 0) seriesCount
+    or ltb (getD ls 2 0) seriesCount
+    or ltb (getD ls 3 0) placeCount
+    or ltb (getD ls 4 0) placeCount
+    or ltb (getD ls 5 0) placeCount
+    or ltb (getD ls 6 0) placeCount
+    or ltb (getD ls 7 0) placeCount
+    or ltb (getD ls 8 0) placeCount
+    or ltb (getD ls 9 0) receivedCount
+    or ltb (getD ls 10 0) stationCount
+    or ltb (getD ls 0 0) jobCount
+
+-- as the rule has it
+short-is : (p : Plant) → shortTables p ≡ short-by (lengths p)
+unfolding shortTables shortCopies shortJobs short-by lengths copiesLengths
+short-is p = refl
+
+-- tables as long as others are short where those are
+pub short-same : (p q : Plant) → lengths q ≡ lengths p → shortTables q ≡ shortTables p
+short-same p q e = short-is q ∙ ap short-by e ∙ sym (short-is p)

@@ -29,7 +29,7 @@ use Rattle.serials.proofs.Moving.{Moves}
 use Rattle.serials.proofs.Turning.{raise-whole}
 use Rattle.serials.proofs.Slots.{close-above}
 use Rattle.serials.proofs.Leaving.{series-whole, whole-at, whole-copies}
-use Rattle.serials.proofs.Committing.{Stays, Adds, Settles, InSeries, draws-settle, committed-up}
+use Rattle.serials.proofs.Committing.{StaysIdle, Adds, Settles, InSeries, draws-settle, committed-up}
 
 -- What W4 says of a draw of count serials of series s at station n.
 record Drawing (t : Copies) (n s count : ℕ) : Type 0 where
@@ -116,7 +116,7 @@ module _ {t : Copies} {bs : List Job} {j : ℕ} (long : Long t) (below : CopiesW
 
   -- ---- the draws
   -- a series that stays has its next number still, and no draw
-  stays-moves : {s : ℕ} → s < seriesCount → Stays t after draws s → Moves s (seriesAt t s) (seriesAt after s) (map plain draws)
+  stays-moves : {s : ℕ} → s < seriesCount → StaysIdle t after draws s → Moves s (seriesAt t s) (seriesAt after s) (map plain draws)
   stays-moves hs a =
       record {
         opened = λ o. (a .same .first, rw (same-whole-at (a .same) (whole-at below hs o) .isNext) (a .idle _));

@@ -27,7 +27,7 @@ same-raised {n} count hn s =
     record { first = s .first; last = s .last; kept = λ m hm. cc (s .kept n hn, s .kept m hm); received = s .received }
 
 -- From t to t′, with the draws ds committed: series s stays, and none of them is in it.
-pub record Stays (t t′ : Copies) (ds : List Draw) (s : ℕ) : Type 0 where
+pub record StaysIdle (t t′ : Copies) (ds : List Draw) (s : ℕ) : Type 0 where
   pub same : Same (seriesAt t′ s) (seriesAt t s)
   pub idle : Idle s (map plain ds)
 
@@ -43,7 +43,7 @@ pub record Adds (t t′ : Copies) (ds : List Draw) (n : ℕ) (ls : List Lock) (s
 
 -- one of the two
 abbrev pub Settles : (t t′ : Copies) (ds : List Draw) (n : ℕ) (ls : List Lock) (s : ℕ) → Type 0
-Settles t t′ ds n ls s = Stays t t′ ds s ⊎ Adds t t′ ds n ls s
+Settles t t′ ds n ls s = StaysIdle t t′ ds s ⊎ Adds t t′ ds n ls s
 
 -- the locks that have drawn are on series that there are
 abbrev pub InSeries : List Lock → Type 0
@@ -66,7 +66,7 @@ module _ {t : Copies} (t′ : Copies) (ds : List Draw) {n : ℕ} (hn : n < stati
   after = raised t (l .series) n (l .drawn)
 
   -- in its own series it is the draw
-  adds-here : Stays after t′ ds (l .series) → Adds t t′ (drawOf t n l ∷ ds) n (l ∷ ls) (l .series)
+  adds-here : StaysIdle after t′ ds (l .series) → Adds t t′ (drawOf t n l ∷ ds) n (l ∷ ls) (l .series)
   adds-here a =
       record {
         place = 0;
@@ -78,7 +78,7 @@ module _ {t : Copies} (t′ : Copies) (ds : List Draw) {n : ℕ} (hn : n < stati
       }
 
   -- another series without a later draw stays
-  stays-elsewhere : {s : ℕ} → s ≢ l .series → Stays after t′ ds s → Stays t t′ (drawOf t n l ∷ ds) s
+  stays-elsewhere : {s : ℕ} → s ≢ l .series → StaysIdle after t′ ds s → StaysIdle t t′ (drawOf t n l ∷ ds) s
   stays-elsewhere {s} differs a =
       record { same = same-then (a .same) (raise .elsewhere s differs); idle = λ v. other (λ e. differs (sym e)) (a .idle v) }
 

@@ -30,8 +30,8 @@ use Rattle.serials.proofs.Running.{Sure, ran}
 
 module _ {p : Plant} {out : List ℕ} {ds : List Drawn} (sure : Sure p out ds) where
   -- an open series is whole
-  open-whole : (s : ℕ) → s < seriesCount → Open (seriesAt (p .copies) s) → WholeAt (seriesAt (p .copies) s) (next (seriesAt (p .copies) s))
-  open-whole s l o = whole-at (whole-facts p (sure .isWhole) .0) l o
+  whole-there : (s : ℕ) → s < seriesCount → Open (seriesAt (p .copies) s) → WholeAt (seriesAt (p .copies) s) (next (seriesAt (p .copies) s))
+  whole-there s l o = whole-at (whole-facts p (sure .isWhole) .0) l o
 
   -- the series of a draw is open
   drawn-open : (i : ℕ) → i < length ds → Open (seriesAt (p .copies) (drawAt ds i .series))
@@ -41,7 +41,7 @@ module _ {p : Plant} {out : List ℕ} {ds : List Drawn} (sure : Sure p out ds) w
 pub serials : SerialsHold
 serials es =
     let sure = ran es .sure in (
-      λ s l o. (_, is-next (open-whole sure s l o), chain-once (sure .issued s l .opened o)),
+      λ s l o. (_, is-next (whole-there sure s l o), chain-once (sure .issued s l .opened o)),
       λ i l. (sure .known i l, drawn-open sure i l),
     )
 
@@ -68,4 +68,4 @@ stays-whole = (keeps-whole, λ es. let x = ran es in (x .sure .isWhole, x .notSh
 pub nothing-lost : NothingLostHolds
 nothing-lost es =
     let sure = ran es .sure in
-    (λ s l o. some-token (open-whole sure s l o), λ s from hs hf way up. delivers _ _ s from (sure .long) (sure .room) (sure .isWhole) hs hf way up)
+    (λ s l o. some-token (whole-there sure s l o), λ s from hs hf way up. delivers _ _ s from (sure .long) (sure .room) (sure .isWhole) hs hf way up)

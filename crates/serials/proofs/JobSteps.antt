@@ -23,7 +23,7 @@ use Rattle.rulebook.proofs.Judging.{cond-cases}
 use Rattle.rulebook.proofs.Admits.{series-in, station-in, job-in, count-in}
 use Rattle.serials.proofs.Tiling.{plain}
 use Rattle.serials.proofs.Leaving.{marks-whole, marks-moves}
-use Rattle.serials.proofs.Proper.{Known, proper-same, proper-slots}
+use Rattle.serials.proofs.Proper.{Known, none-known, proper-same, proper-slots}
 use Rattle.serials.proofs.Admitting.{series-opened, job-opened, station-up, not-held, not-full, copy-exclusive, copy-share, copy-free, draw-locked, count-left}
 use Rattle.serials.proofs.CopySteps.{ProperAt}
 use Rattle.serials.proofs.Locked.{same-copy-self}
@@ -124,7 +124,7 @@ module _ (p : Plant) (out : List ℕ) (four : FourPlaces (p .jobs)) where
   proper-CRASH a b c d w =
       let s = w .isSound in
       let marks = after-marked (s .long) (station-in s refl) 0 in
-      record { copies = marks-whole (s .copies) marks (omega arith); jobs = crash-jobs marks (s .jobs); moves = marks-moves (s .copies) marks; known = λ i l. absurd (not-suc-le-zero l) }
+      record { copies = marks-whole (s .copies) marks (omega arith); jobs = crash-jobs marks (s .jobs); moves = marks-moves (s .copies) marks; known = none-known }
 
   -- RESTART
   pub proper-RESTART : ProperAt p out RESTART doRESTART
@@ -132,4 +132,4 @@ module _ (p : Plant) (out : List ℕ) (four : FourPlaces (p .jobs)) where
   proper-RESTART a b c d w =
       let s = w .isSound in
       let marks = after-marked (s .long) (station-in s refl) 1 in
-      record { copies = marks-whole (s .copies) marks (omega arith); jobs = restart-jobs marks (s .jobs); moves = marks-moves (s .copies) marks; known = λ i l. absurd (not-suc-le-zero l) }
+      record { copies = marks-whole (s .copies) marks (omega arith); jobs = restart-jobs marks (s .jobs); moves = marks-moves (s .copies) marks; known = none-known }

@@ -34,11 +34,11 @@ pub record Proper (p : Plant) (x : Effect) : Type 0 where
   pub moves : (s : ℕ) → s < seriesCount → Moves s (seriesAt (p .copies) s) (seriesAt (x .plant .copies) s) (map plain (x .draws))
   pub known : Known (map plain (x .draws))
 
-module _ {p : Plant} (below : CopiesWhole (p .copies)) (above : JobsWhole (p .copies) (p .jobs)) where
-  -- no draw
-  none-known : Known []
-  none-known i l = absurd (not-suc-le-zero l)
+-- no draw is
+pub none-known : Known []
+none-known i l = absurd (not-suc-le-zero l)
 
+module _ {p : Plant} (below : CopiesWhole (p .copies)) (above : JobsWhole (p .copies) (p .jobs)) where
   -- no series changes
   all-stay : (s : ℕ) → s < seriesCount → Moves s (seriesAt (p .copies) s) (seriesAt (p .copies) s) []
   all-stay s l = moves-same refl (λ _. refl)

@@ -1,22 +1,19 @@
 -- What holds at every point of a run from the empty plant.
 -- Assumes nothing.
 use Prim.Native.Nat.{ℕ, zero, suc, _≤_, _<_}
-use native.Mathlib.Nat.{not-suc-le-zero}
 use native.Mathlib.Omega.{arith}
 use mathlib.Core.Path.{_≡_, refl, sym, ap, subst, _∙_}
 use mathlib.Core.Logic.{_≢_}
-use mathlib.Core.Bool.{Bool, true, false}
+use mathlib.Core.Bool.{true, false}
 use mathlib.Core.List.{List, [], _∷_, _++_, append-nil, append-assoc}
-use lib.Dec.{ltb}
-use lib.ListN.{getD, length, replicate, getD-replicate}
+use lib.ListN.{length, replicate, getD-replicate}
 use borrow.Author.Tests.{le-ltb}
 use Rattle.words.specs.declared.Answer.{Answer}
 use Rattle.words.specs.declared.Answer.the-variants.{Short, NotWhole}
 use Rattle.words.specs.Answers.{codeOf}
-use Rattle.words.specs.Numbers.{stationCount, seriesCount, jobCount, placeCount, receivedCount, outCount}
+use Rattle.words.specs.Numbers.{seriesCount, outCount}
 use Rattle.words.specs.Tests.{non, _or_}
-use Rattle.copies.specs.Tables.{seriesAt, shortCopies}
-use Rattle.jobs.specs.Slots.{shortJobs}
+use Rattle.copies.specs.Tables.{seriesAt}
 use Rattle.rulebook.specs.declared.Event.{Event}
 use Rattle.rulebook.specs.Tables.{Plant, shortTables}
 use Rattle.rulebook.specs.Whole.{whole}
@@ -24,17 +21,18 @@ use Rattle.rulebook.specs.Refusals.{SHORT, NOT-WHOLE, eventRefusals}
 use Rattle.rulebook.specs.Steps.{Effect, outcome, judged, effect, stepOf}
 use Rattle.rulebook.specs.Around.{emptyPlant}
 use Rattle.rulebook.specs.Run.{replyTo, Run, runBy, fromEmpty}
-use Rattle.rulebook.specs.Keeps.{FourPlaces, copiesLengths, lengths}
+use Rattle.rulebook.specs.Keeps.{FourPlaces}
 use Rattle.rulebook.proofs.Judging.{judged-answers}
 use Rattle.rulebook.proofs.Keeps.{Accepts, accepted-code}
 use Rattle.rulebook.proofs.Walked.{whole-walked}
 use Rattle.rulebook.proofs.Computes.{computes}
+use Rattle.rulebook.proofs.Untouched.{short-same}
 use Rattle.rulebook.proofs.Sparing.{step-extra-kept}
 use Rattle.rulebook.proofs.FourStay.{stays-four}
 use Rattle.serials.specs.Draws.{Drawn, drawsIn, drawsShown}
 use Rattle.serials.specs.StaysWhole.{Never}
 use Rattle.serials.proofs.Moving.{Issued, issued-none, issued-next}
-use Rattle.serials.proofs.Proper.{Known}
+use Rattle.serials.proofs.Proper.{Known, none-known}
 use Rattle.serials.proofs.Stepping.{step-proper, keeps-whole}
 use Rattle.serials.proofs.Showing.{tells}
 
@@ -49,26 +47,6 @@ pub record Sure (p : Plant) (out : List ℕ) (ds : List Drawn) : Type 0 where
   pub known : Known ds
 
 -- ---- one step
--- whether a table is short goes by the lengths
-short-by : List ℕ → Bool
-short-by ls =
-    ltb (getD ls 1 0) seriesCount
-    or ltb (getD ls 2 0) seriesCount
-    or ltb (getD ls 3 0) placeCount
-    or ltb (getD ls 4 0) placeCount
-    or ltb (getD ls 5 0) placeCount
-    or ltb (getD ls 6 0) placeCount
-    or ltb (getD ls 7 0) placeCount
-    or ltb (getD ls 8 0) placeCount
-    or ltb (getD ls 9 0) receivedCount
-    or ltb (getD ls 10 0) stationCount
-    or ltb (getD ls 0 0) jobCount
-
--- as the rule has it
-short-is : (p : Plant) → shortTables p ≡ short-by (lengths p)
-unfolding shortTables shortCopies shortJobs short-by lengths copiesLengths
-short-is p = refl
-
 -- the draws of one list, and then of another, are of series that there are
 known-then : (ds es : List Drawn) → Known ds → Known es → Known (ds ++ es)
 known-then [] es p q i l = q i l
@@ -92,7 +70,7 @@ module _ {p : Plant} {out : List ℕ} {ds : List Drawn} (sure : Sure p out ds) (
       let x = step-proper p out (sure .four) e (sure .isWhole) in
       rw (tells out p e (sure .four))
       (record {
-        long = short-is (step .plant) ∙ ap short-by (kept .0 .0) ∙ sym (short-is p) ∙ sure .long;
+        long = short-same p (step .plant) (kept .0 .0) ∙ sure .long;
         room = rw (kept .1) (sure .room);
         four = stays-four .1 p out e (sure .four);
         isWhole = keeps-whole p out e (sure .four) (sure .isWhole);
@@ -155,7 +133,7 @@ sure-empty =
       four = stays-four .0;
       isWhole = empty-whole;
       issued = λ s l. issued-none (getD-replicate seriesCount s 0 0 l);
-      known = λ i l. absurd (not-suc-le-zero l);
+      known = none-known;
     }
 
 -- after any list of events from the empty plant

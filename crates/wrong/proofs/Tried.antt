@@ -16,7 +16,7 @@ use Rattle.rulebook.specs.Run.{Machine, fromEmpty}
 use Rattle.rulebook.proofs.Walked.{effectWalked, same-machine}
 use Rattle.rulebook.proofs.Computes.{computes}
 use Rattle.wrong.specs.Machines.{instead, voidReleased}
-use Rattle.wrong.specs.Tried.{reads, locks, twoJobs, comesAgain, ownDraw, drawnThere, shareUnderWay, crashes, onlyShare, backBeforeAck, changed, Gives, TriesRight}
+use Rattle.wrong.specs.Tried.{arrives, reads, locks, twoJobs, comesAgain, ownDraw, drawnThere, shareUnderWay, crashes, onlyShare, backBeforeAck, shareBack, changed, Gives, SerialsTried, ReadsTried, WholeTried, NothingLostTried, TriesRight}
 
 -- ---- equality as a test, so that a difference is told at once
 -- two lists have the same entries, as the test of entries says
@@ -43,16 +43,27 @@ answers es lines = sameList (sameList eqb) (linesOf (fromEmpty (changed effectWa
 by-walking : (es : List Event) (lines : List (List ℕ)) → answers es lines ≡ true → Gives es lines
 by-walking es lines e = ap (λ (m : Machine). linesOf (fromEmpty (changed m) es)) same-machine ∙ same-list (sameList eqb) (same-list eqb eqb-true) _ lines e
 
--- list by list
-pub tries-right : TriesRight
-unfolding computes instead voidReleased sameList twoJobs comesAgain ownDraw drawnThere shareUnderWay crashes onlyShare backBeforeAck
-tries-right = (
-  by-walking twoJobs _ refl,
-  by-walking comesAgain _ refl,
-  by-walking (ownDraw ++ reads ∷ []) _ refl,
-  by-walking (drawnThere ++ reads ∷ []) _ refl,
-  by-walking shareUnderWay _ refl,
-  by-walking (crashes ++ event RESTART 0 0 0 0 ∷ []) _ refl,
+-- ---- list by list
+serials-tried : SerialsTried
+unfolding computes instead sameList twoJobs comesAgain
+serials-tried = (by-walking twoJobs _ refl, by-walking comesAgain _ refl)
+
+reads-tried : ReadsTried
+unfolding computes instead sameList ownDraw drawnThere
+reads-tried = (by-walking (ownDraw ++ reads ∷ []) _ refl, by-walking (drawnThere ++ reads ∷ []) _ refl)
+
+whole-tried : WholeTried
+unfolding computes instead sameList shareUnderWay crashes
+whole-tried = (by-walking shareUnderWay _ refl, by-walking (crashes ++ event RESTART 0 0 0 0 ∷ []) _ refl)
+
+nothing-lost-tried : NothingLostTried
+unfolding computes instead voidReleased sameList onlyShare backBeforeAck shareBack
+nothing-lost-tried = (
   by-walking onlyShare _ refl,
   by-walking (backBeforeAck ++ locks 0 []) _ refl,
+  by-walking (shareBack ++ arrives 1 0 1 ∷ []) _ refl,
 )
+
+-- all of them
+pub tries-right : TriesRight
+tries-right = (serials-tried, reads-tried, whole-tried, nothing-lost-tried)

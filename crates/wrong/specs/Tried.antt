@@ -96,17 +96,34 @@ changed m = m
 abbrev pub Gives : List Event → List (List ℕ) → Type 0
 Gives es answers = linesOf (fromEmpty (changed effect) es) ≡ answers
 
--- THE STATEMENT: these are its answer lines to the lists, with an event or two more where a wrong machine shows only then.
-abbrev pub TriesRight : Type 0
-TriesRight =
+-- of the lists that try the serials
+abbrev pub SerialsTried : Type 0
+SerialsTried =
     Gives twoJobs (gives 0 0 ∷ gives 0 0 ∷ gives 0 0 ∷ gives 0 0 ∷ draw 1 ∷ gives 0 0 ∷ gives 0 0 ∷ gives 0 0 ∷ draw 2 ∷ [])
     × Gives comesAgain
     (gives 0 0 ∷ gives 0 1 ∷ gives 0 1 ∷ gives 0 1 ∷ gives 0 1 ∷ gives 0 0 ∷ gives 0 0 ∷ gives 0 0 ∷ draw 1 ∷ gives 0 0 ∷ [])
-    × Gives (ownDraw ++ reads ∷ []) (gives 0 0 ∷ gives 0 0 ∷ gives 0 0 ∷ gives 0 0 ∷ gives 0 2 ∷ [])
+
+-- the reads: a READ comes last
+abbrev pub ReadsTried : Type 0
+ReadsTried =
+    Gives (ownDraw ++ reads ∷ []) (gives 0 0 ∷ gives 0 0 ∷ gives 0 0 ∷ gives 0 0 ∷ gives 0 2 ∷ [])
     × Gives (drawnThere ++ reads ∷ [])
     (gives 0 0 ∷ gives 0 1 ∷ gives 0 1 ∷ gives 0 0 ∷ gives 0 0 ∷ gives 0 0 ∷ draw 1 ∷ gives 0 0 ∷ gives 0 0 ∷ gives 0 2 ∷ [])
-    × Gives shareUnderWay (gives 0 0 ∷ gives 0 0 ∷ gives 0 1 ∷ gives 17 0 ∷ [])
+
+-- whole tables: an event more shows whether they are
+abbrev pub WholeTried : Type 0
+WholeTried =
+    Gives shareUnderWay (gives 0 0 ∷ gives 0 0 ∷ gives 0 1 ∷ gives 17 0 ∷ [])
     × Gives (crashes ++ event RESTART 0 0 0 0 ∷ []) (gives 0 0 ∷ gives 0 1 ∷ gives 0 0 ∷ [])
-    × Gives onlyShare (gives 0 0 ∷ gives 0 0 ∷ gives 17 0 ∷ [])
+
+-- nothing lost: the token is still there to be locked, and a share arrives where there is one
+abbrev pub NothingLostTried : Type 0
+NothingLostTried =
+    Gives onlyShare (gives 0 0 ∷ gives 0 0 ∷ gives 17 0 ∷ [])
     × Gives (backBeforeAck ++ locks 0 [])
     (gives 0 0 ∷ gives 0 1 ∷ gives 0 1 ∷ gives 0 1 ∷ gives 0 1 ∷ gives 0 0 ∷ gives 0 1 ∷ gives 0 0 ∷ gives 0 0 ∷ [])
+    × Gives (shareBack ++ arrives 1 0 1 ∷ []) (gives 0 0 ∷ gives 0 0 ∷ gives 0 1 ∷ gives 0 1 ∷ gives 0 1 ∷ gives 0 1 ∷ [])
+
+-- THE STATEMENT: these are the machine's answer lines to the lists.
+abbrev pub TriesRight : Type 0
+TriesRight = SerialsTried × ReadsTried × WholeTried × NothingLostTried
