@@ -36,8 +36,8 @@ use Rattle.serials.proofs.Proper.{Known, none-known}
 use Rattle.serials.proofs.Stepping.{step-proper, keeps-whole}
 use Rattle.serials.proofs.Showing.{tells}
 
--- At a point of a run, with the draws that its answer lines have shown: the tables have their sizes and are whole, and so is the output;
--- the draws lead each open series from its first number to its next.
+-- At a point of a run, with the draws that its answer lines have shown: tables and output have their sizes, each job its four lock places, and
+-- the tables are whole; the draws lead each open series from its first number to its next, and are of series that there are.
 pub record Sure (p : Plant) (out : List ℕ) (ds : List Drawn) : Type 0 where
   pub long : shortTables p ≡ false
   pub room : outCount ≤ length out
