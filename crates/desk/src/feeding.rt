@@ -70,7 +70,7 @@ fn judge(
 {
     match event_line(line) {
         Parsed::Good(event) => {
-            let stepped = plant::step(
+            let stepped = machine::step(
                 jobs,
                 firsts,
                 lasts,

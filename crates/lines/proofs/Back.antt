@@ -12,12 +12,13 @@ use lib.Seq.{drop-cons, drop-append-seam, drop-drop, take-all, take-nil}
 use borrow.Author.Tests.{lt-ltb, eq-eqb, leb-true, leb-false, ltb-true, ltb-false}
 use Rattle.digits.specs.declared.Number.the-variants.{Is}
 use Rattle.digits.specs.Bytes.{space, LF}
-use Rattle.digits.specs.Reading.{greatestNumber, digitCount, digitValue, readNumber}
+use Rattle.digits.specs.Reading.{greatestNumber, digitCount, digitValue}
 use Rattle.digits.specs.Printing.{decimal}
 use Rattle.digits.proofs.Round.{reads-at}
 use Rattle.rulebook.specs.declared.Event.{Event}
 use Rattle.rulebook.specs.Events.{numbers, RESTART}
 use Rattle.lines.specs.declared.Parsed.the-variants.{Good}
+use Rattle.lines.specs.Reader.{numberAt}
 use Rattle.lines.specs.EventLines.{fieldCount, fieldAt, fieldsFrom, eventLine}
 use Rattle.lines.specs.Printed.{spaced, ended, line, eventText}
 use Rattle.lines.specs.Back.{Plain, EventBack}
@@ -42,7 +43,7 @@ spaced-value (n ∷ ns) v = refl
 
 -- so a number before them is read, and they stand after it
 module _ (t : List ℕ) (p n : ℕ) (ns : List ℕ) (h : p ≤ length t) (e : drop p t ≡ decimal n ++ spaced ns) where
-  number-read : n ≤ greatestNumber → readNumber t p (length t) ≡ Is n (p + length (decimal n))
+  number-read : n ≤ greatestNumber → numberAt t p ≡ Is n (p + length (decimal n))
   number-read g =
       reads-at t (spaced ns) p (length t) n (omega arith) h (take-all (length t - p) (drop p t) (omega (arith, length-drop p t)) ∙ e) g
       (spaced-count ns) (spaced-value ns)

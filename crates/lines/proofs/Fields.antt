@@ -12,10 +12,10 @@ use borrow.Author.Tests.{eq-eqb, ne-eqb, lt-ltb, le-ltb, leb-true, leb-false, no
 use Rattle.digits.specs.declared.Number.{Number}
 use Rattle.digits.specs.declared.Number.the-variants.{Is, Not}
 use Rattle.digits.specs.Bytes.{space}
-use Rattle.digits.specs.Reading.{readNumber}
 use Rattle.rulebook.specs.Events.{fieldTable, RESTART}
 use Rattle.lines.specs.declared.Parsed.{Parsed}
 use Rattle.lines.specs.declared.Parsed.the-variants.{Good, Bad}
+use Rattle.lines.specs.Reader.{numberAt}
 use Rattle.lines.specs.EventLines.{longestLine, fieldCount, fieldAt, fieldsFrom, eventLine}
 
 -- the constant table of how many fields each kind has is right, entry by entry
@@ -60,7 +60,7 @@ module _ (line : List ℕ) (at : ℕ) (wanted : Bool) where
   field-gap e h g = rw (not-false wanted e, lt-ltb at (length line) h, ne-eqb (getD line at 0) space g)
 
   -- a space: what stands after it
-  pub field-read : (r : Number) → r ≡ readNumber line (at + 1) (length line) → not wanted ≡ false → at < length line
+  pub field-read : (r : Number) → r ≡ numberAt line (at + 1) → not wanted ≡ false → at < length line
       → getD line at 0 ≡ space → r ≡ fieldAt line at wanted
   unfolding fieldAt
   field-read r q e h g = rw (not-false wanted e, lt-ltb at (length line) h, eq-eqb (getD line at 0) space g) q
@@ -118,7 +118,7 @@ event-front line = by (leb (length line) (longestLine + 1)) refl
         sym (line-long (take (longestLine + 1) line) (omega arith)) ∙ line-long line (omega arith)
 
 -- a line by what it starts with
-module _ (line : List ℕ) (x : Number) (e : x ≡ readNumber line 0 (length line)) where
+module _ (line : List ℕ) (x : Number) (e : x ≡ numberAt line 0) where
   -- bad, whether or not it is too long
   either-bad : (b : Bool) → Bad ≡ cond b Bad Bad
   either-bad true = refl

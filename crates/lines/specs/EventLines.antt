@@ -8,10 +8,10 @@ use lib.ListN.{length, getD}
 use Rattle.digits.specs.declared.Number.{Number}
 use Rattle.digits.specs.declared.Number.the-variants.{Is, Not}
 use Rattle.digits.specs.Bytes.{space}
-use Rattle.digits.specs.Reading.{readNumber}
 use Rattle.rulebook.specs.Events.{fieldsOf}
 use Rattle.lines.specs.declared.Parsed.{Parsed}
 use Rattle.lines.specs.declared.Parsed.the-variants.{Good, Bad}
+use Rattle.lines.specs.Reader.{numberAt}
 
 -- the longest event line, its LF not counted
 abbrev pub longestLine : ℕ
@@ -28,7 +28,7 @@ andThen Not next = Bad
 
 -- a wanted field is a space and a number; one that the kind doesn't have is 0
 unfoldable pub fieldAt : List ℕ → ℕ → Bool → Number
-fieldAt t at true = cond (ltb at (length t)) (cond (eqb (getD t at 0) space) (readNumber t (at + 1) (length t)) Not) Not
+fieldAt t at true = cond (ltb at (length t)) (cond (eqb (getD t at 0) space) (numberAt t (at + 1)) Not) Not
 fieldAt t at false = Is 0 at
 
 -- count fields from a position on, and then the end of the line
@@ -44,6 +44,6 @@ fieldsFrom t kind count at =
 unfoldable pub eventLine : List ℕ → Parsed
 eventLine t =
     cond (ltb longestLine (length t)) Bad
-    (andThen (readNumber t 0 (length t)) (λ kind at.
+    (andThen (numberAt t 0) (λ kind at.
     cond (eqb (fieldCount kind) 0) Bad
     (fieldsFrom t kind (fieldCount kind) at)))

@@ -3,8 +3,8 @@ ghost use mathlib.Core.Path.{_≡_};
 ghost use Rattle.lines.specs.EventLines.{fieldCount, fieldAt, fieldsFrom, eventLine};
 use crate::LONGEST_LINE;
 use crate::Parsed;
+use crate::readers::number_at;
 use digits::Number;
-use digits::read_number;
 use rulebook::Event;
 use rulebook::RESTART;
 
@@ -34,7 +34,7 @@ fn field(line: &[u8], at: usize, wanted: bool) -> Number
     if line[at] != b' ' {
         return Number::Not;
     }
-    read_number(line, at + 1, line.len())
+    number_at(line, at + 1)
 }
 
 // The event of a kind that has count fields, which start at a position of a line.
@@ -66,7 +66,7 @@ pub fn event_line(line: &[u8]) -> Parsed
     if LONGEST_LINE < line.len() {
         return Parsed::Bad;
     }
-    let Number::Is(kind, at) = read_number(line, 0, line.len()) else {
+    let Number::Is(kind, at) = number_at(line, 0) else {
         return Parsed::Bad;
     };
     let count = fields_of(kind);

@@ -1,14 +1,24 @@
-// Lines: where they lie in a text, the event that a line says, and the lines of events and answers as they are printed.
+// Lines: the reader that keeps a text and its place in it, the event that a line says, and the lines of events and answers as they are
+// printed.
 mod event_lines;
+mod numbers;
 mod printing;
+mod readers;
 mod texts;
 
 pub use event_lines::event_line;
 pub use event_lines::fields_of;
 pub use printing::write_answer;
 pub use printing::write_event;
+pub use readers::LineReader;
+pub use readers::NumberRead;
+pub use readers::line_at;
+pub use readers::next_line;
+pub use readers::next_number;
+pub use readers::number_at;
+pub use readers::reader;
+pub use readers::rest;
 use rulebook::Event;
-pub use texts::line_at;
 
 // An event line has at most so many bytes, its end not counted.
 pub const LONGEST_LINE: usize = 64;

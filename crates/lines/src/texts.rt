@@ -18,7 +18,7 @@ fn end_from(text: &[u8], at: usize) -> usize
 }
 
 // The line that starts at a position.
-pub fn line_at(text: &[u8], at: usize) -> Found
+pub fn line_from(text: &[u8], at: usize) -> Found
     ensures { λ r. ⌜ r ≡ lineAt (now (text .entry)) at ⌝ }
 {
     if text.len() <= at {

@@ -1,6 +1,6 @@
-pub mod Checking
-pub mod Sets
-pub mod Held
-pub mod Emptied
-pub mod Ways
+pub mod Row
+pub mod Moved
+pub mod Values
+pub mod Columns
+pub mod Lent
 pub mod Once

@@ -1,18 +1,20 @@
--- What the making of an empty plant leaves, as the rulebook's effect; and of a column.
+-- What the calls over lent tables leave, as the rulebook's outcome and effect.
 -- Assumes nothing.
 use Prim.Native.Nat.{ℕ}
 use mathlib.Core.List.{List, []}
-use lib.ListN.{replicate}
-use lib.Seq.{sets}
-use Rattle.copies.specs.Tables.{Copies}
-use Rattle.jobs.specs.declared.Stepped.{Stepped}
-use Rattle.rulebook.specs.Tables.{plant}
-use Rattle.rulebook.specs.Steps.{Effect}
+use Rattle.words.specs.declared.Answer.{Answer}
+use Rattle.rulebook.specs.Tables.{Plant}
+use Rattle.rulebook.specs.Steps.{Outcome, Effect}
 
--- the answer and the slots that it gives back, the columns; no draws
-abbrev pub made : Stepped → Copies → Effect
-made r t = record { answer = r .answer; plant = plant t (r .jobs); draws = [] }
+-- a step's: the answer that it gives back, the tables and the output
+abbrev pub left : Answer → Plant → List ℕ → Outcome
+left a p out = record { answer = a; plant = p; out = out }
 
--- a column with a number at its first so many entries, or at all where it has fewer
-unfoldable pub filled : (size number : ℕ) → List ℕ → List ℕ
-filled size number l = sets l 0 (replicate size number)
+-- What the making of an empty plant gives back and leaves: the answer and the tables.
+pub record Made : Type 0 where
+  pub answer : Answer
+  pub plant : Plant
+
+-- as an effect: it commits no draws
+abbrev pub made : Answer → Plant → Effect
+made a p = record { answer = a; plant = p; draws = [] }

@@ -1,3 +1,2 @@
 pub mod Calls
-pub mod Holding
 pub mod Once

@@ -68,7 +68,7 @@ EachKind P [] = Unit {0}
 EachKind P (f ∷ fs) = P 0 f × EachKind (λ k. P (suc k)) fs
 
 -- it holds of the step of any kind, where it holds of none too
-each-kind : (P : ℕ → (Plant → Event → Effect) → Type 0) (fs : List (Plant → Event → Effect)) → EachKind P fs → ((k : ℕ) → P k nothing)
+pub each-kind : (P : ℕ → (Plant → Event → Effect) → Type 0) (fs : List (Plant → Event → Effect)) → EachKind P fs → ((k : ℕ) → P k nothing)
     → (k : ℕ) → P k (getD fs k nothing)
 each-kind P [] all none k = none k
 each-kind P (f ∷ fs) all none zero = all .0

@@ -10,3 +10,4 @@ pub mod Keeps
 pub mod Untouched
 pub mod Sparing
 pub mod FourStay
+pub mod Sixteen

@@ -1,4 +1,4 @@
--- The fields of an event that refusal 3 lets pass hold what they can hold, whatever the kind.
+-- The fields of an event that refusal 3 lets pass hold what they can hold, whatever the kind; a field that it doesn't have has 0.
 -- Assumes nothing.
 use Prim.Native.Nat.{ℕ, zero, suc, _≤_}
 use mathlib.Core.Path.{_≡_, refl, sym}
@@ -61,8 +61,24 @@ in-range x (f ∷ fs) (v ∷ vs) same e h =
     found x f v (numberIn x fs vs) (eqb (x .name) (f .name)) (isAmong x fs) (own .0) (leb-true _ _ (two .0), leb-true _ _ (two .1)) e
     (λ l. in-range x fs vs (own .1) l (all .1))
 
+-- ---- a field that isn't among those of a kind
+-- not the first, and not a later one
+absent : (named later : Bool) (v rest : ℕ) → (named || later) ≡ false → (later ≡ false → rest ≡ 0) → cond named v rest ≡ 0
+absent true later v rest e h = absurd (true≢false e)
+absent false later v rest e h = h e
+
+-- the number in it is 0
+none-in : (x : Field) (fs : List Field) (vs : List ℕ) → isAmong x fs ≡ false → numberIn x fs vs ≡ 0
+none-in x [] vs e = refl
+none-in x (f ∷ fs) [] e = refl
+none-in x (f ∷ fs) (v ∷ vs) e = absent (eqb (x .name) (f .name)) (isAmong x fs) v (numberIn x fs vs) e (none-in x fs vs)
+
 -- ---- the fields of an event
 -- a field that the event has, of a name that stands in the table for one field only
 pub field-range : (x : Field) (e : Event) → sameInTable x fieldTable ≡ true → has x e ≡ true → fit (fieldsOf (e .kind)) (numbers e) ≡ true
     → InRange x (the x e)
 field-range x e same h good = in-range x (fieldsOf (e .kind)) (numbers e) (same-of-kind x fieldTable (e .kind) same) h good
+
+-- the number in a field that the event doesn't have
+pub field-absent : (x : Field) (e : Event) → has x e ≡ false → the x e ≡ 0
+field-absent x e h = none-in x (fieldsOf (e .kind)) (numbers e) h

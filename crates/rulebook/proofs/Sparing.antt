@@ -21,7 +21,7 @@ use Rattle.rulebook.specs.Events.{OPEN, BEGIN, LOCKX, LOCKS, DRAW, READ,
 use Rattle.rulebook.specs.Edges.{event}
 use Rattle.rulebook.specs.Refusals.{refusals}
 use Rattle.rulebook.specs.Steps.{Effect, done, refused, doOPEN, doBEGIN, doLOCKX, doLOCKS, doDRAW, doREAD, doCOMMIT, doABORT, doSEND, doDEMOTE, doSHARE, doDROP, doPROMOTE, doGRANT, doACK, doCRASH, doRESTART, accepted, effect, stepOf}
-use Rattle.rulebook.specs.Around.{emptied, emptyOf}
+use Rattle.rulebook.specs.Around.{emptiedCopies, emptied, emptyOf}
 use Rattle.rulebook.specs.Keeps.{SameExtra, FourPlaces, StepExtraKept, ExtraKept}
 use Rattle.rulebook.proofs.Judging.{cond-cases, judged-cases, AtKind, accepted-by-kind, _then_, grant-cases, ack-cases}
 use Rattle.rulebook.proofs.Admits.{Sound, admitted, series-in, station-in, from-in, to-in, job-in}
@@ -204,7 +204,7 @@ step-extra-kept p out e four =
 
 -- the empty plant is written within the stated sizes
 emptied-only : (p : Plant) → OnlyStated (p .copies) (emptied p .copies)
-unfolding emptied
+unfolding emptied emptiedCopies
 emptied-only p =
     record {
       firsts = only-filled seriesCount (p .copies .firsts) 0;

@@ -9,11 +9,11 @@ use Rattle.words.specs.declared.Answer.{Answer}
 use Rattle.words.specs.declared.Answer.the-variants.{Done, Short, NotWhole, BadEvent, None}
 use Rattle.words.specs.Numbers.{stationCount, seriesCount, jobCount, placeCount, receivedCount}
 use Rattle.words.specs.Tests.{non, countBelow, leastBelow}
-use Rattle.copies.specs.Tables.{Series, seriesAt, isOpen, held}
+use Rattle.copies.specs.Tables.{Copies, Series, seriesAt, isOpen, held}
 use Rattle.copies.specs.Steps.{holderSet}
 use Rattle.jobs.specs.Job.{noJob}
 use Rattle.rulebook.specs.declared.Holders.{Holders}
-use Rattle.rulebook.specs.Tables.{Plant, shortTables}
+use Rattle.rulebook.specs.Tables.{Plant, plant, shortTables}
 use Rattle.rulebook.specs.Whole.{whole}
 use Rattle.rulebook.specs.Steps.{Effect, done, refused}
 
@@ -36,24 +36,25 @@ emptyPlant =
       jobs = replicate jobCount noJob;
     }
 
--- the empty plant written into lent tables, whose extra entries stay
-unfoldable pub emptied : Plant → Plant
-emptied p =
+-- its lower layer's tables written into lent ones, whose extra entries stay
+unfoldable pub emptiedCopies : Copies → Copies
+emptiedCopies t =
     record {
-      copies = record {
-        firsts = sets (p .copies .firsts) 0 (emptyPlant .copies .firsts);
-        lasts = sets (p .copies .lasts) 0 (emptyPlant .copies .lasts);
-        kinds = sets (p .copies .kinds) 0 (emptyPlant .copies .kinds);
-        values = sets (p .copies .values) 0 (emptyPlant .copies .values);
-        sent = sets (p .copies .sent) 0 (emptyPlant .copies .sent);
-        relTo = sets (p .copies .relTo) 0 (emptyPlant .copies .relTo);
-        relKind = sets (p .copies .relKind) 0 (emptyPlant .copies .relKind);
-        relValue = sets (p .copies .relValue) 0 (emptyPlant .copies .relValue);
-        received = sets (p .copies .received) 0 (emptyPlant .copies .received);
-        up = sets (p .copies .up) 0 (emptyPlant .copies .up);
-      };
-      jobs = sets (p .jobs) 0 (emptyPlant .jobs);
+      firsts = sets (t .firsts) 0 (emptyPlant .copies .firsts);
+      lasts = sets (t .lasts) 0 (emptyPlant .copies .lasts);
+      kinds = sets (t .kinds) 0 (emptyPlant .copies .kinds);
+      values = sets (t .values) 0 (emptyPlant .copies .values);
+      sent = sets (t .sent) 0 (emptyPlant .copies .sent);
+      relTo = sets (t .relTo) 0 (emptyPlant .copies .relTo);
+      relKind = sets (t .relKind) 0 (emptyPlant .copies .relKind);
+      relValue = sets (t .relValue) 0 (emptyPlant .copies .relValue);
+      received = sets (t .received) 0 (emptyPlant .copies .received);
+      up = sets (t .up) 0 (emptyPlant .copies .up);
     }
+
+-- and the empty plant, with the slots too
+unfoldable pub emptied : Plant → Plant
+emptied p = plant (emptiedCopies (p .copies)) (sets (p .jobs) 0 (emptyPlant .jobs))
 
 -- making one refuses only with 1
 unfoldable pub emptyOf : Plant → Effect

@@ -8,3 +8,4 @@ pub mod Run
 pub mod Edges
 pub mod Damage
 pub mod Keeps
+pub mod Sixteen

@@ -28,7 +28,7 @@ pub fn answer_lines(input: i32) {
     let mut up: [u32; STATIONS] = [0; STATIONS];
     let mut row: [Serial; OUTPUT] = [0; OUTPUT];
     let none = Job::begun(0).close();
-    let made = plant::empty(
+    let made = machine::empty(
         [none; JOBS],
         &mut firsts,
         &mut lasts,

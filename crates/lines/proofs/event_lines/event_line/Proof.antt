@@ -8,8 +8,8 @@ use Rattle.lines.proofs.event_lines.event_line.Tie as tie
 returns : tie.Need-returns
 returns c = line-long _ (omega arith)
 
-read-number-requires : tie.Need-read-number-requires
-read-number-requires c κs = search needs
+number-at-requires : tie.Need-number-at-requires
+number-at-requires c κs = search needs
 
 enum-known-kind : tie.Need-enum-known-kind
 enum-known-kind c = search needs
@@ -37,7 +37,7 @@ event-line-spec =
     tie.close
     (tie.spec
     returns
-    read-number-requires
+    number-at-requires
     enum-known-kind
     enum-told
     returns-2

@@ -16,11 +16,11 @@ shared-slice-read-if3 c = search needs
 returns-3 : tie.Need-returns-3
 returns-3 c = search field-gap
 
-add-read-number : tie.Need-add-read-number
-add-read-number c = search needs
+add-number-at : tie.Need-add-number-at
+add-number-at c = search needs
 
-read-number-requires : tie.Need-read-number-requires
-read-number-requires c κs = search needs
+number-at-requires : tie.Need-number-at-requires
+number-at-requires c κs = search needs
 
 returns-4 : tie.Need-returns-4
 returns-4 c = search field-read
@@ -33,6 +33,6 @@ field-spec =
     returns-2
     shared-slice-read-if3
     returns-3
-    add-read-number
-    read-number-requires
+    add-number-at
+    number-at-requires
     returns-4)
