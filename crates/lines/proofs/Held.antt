@@ -15,7 +15,7 @@ use contract.Lifetimes.{toks}
 use types.Kit.{Given, Item, ‵, raw, _⊛_, given, Goal, Step, _$_, _∵_, !, qed, by, move, keep, use1, learn, fsplit, fjoin, done}
 use denote.RattleType.{RattleType, Denots, Valss, owns}
 use denote.Laws.{Is}
-use denote.Plain.{uint-makes}
+use denote.Plain.{uint-makes, uint-tells}
 use denote.Builtin.{u8, usize}
 use denote.Ref.{RefT}
 use denote.Signature.{namedLft}
@@ -26,7 +26,7 @@ use denote.Struct.Laws as Structs
 use denote.Struct.Rest.{all-own, own-open, own-shut}
 use Rattle.lines.specs.declared.readers.LineReader.{LineReader}
 use Rattle.lines.specs.Reader.{readerAt}
-use Rattle.lines.proofs.Thin.{Spelled, Lending}
+use Rattle.walks.proofs.Thin.{Spelled, Lendable}
 use Rattle.lines.proofs.readers.LineReader as ReaderType
 use Rattle.lines.proofs.readers.LineReader.Laws as ReaderLaws
 
@@ -54,6 +54,10 @@ readerVal d = ReaderLaws.lowered d
 -- how a reader's is spelled
 abbrev pub reader-spelled : (κ : Lft) → Spelled (Reader κ)
 reader-spelled κ = record { val = readerVal; tells = Structs.tells (struct κ) (laws κ) }
+
+-- and a place's
+abbrev pub place-spelled : Spelled usize
+place-spelled = record { val = vint w64; tells = uint-tells w64 }
 
 -- what a call binds: a lifetime, a share of its token, the arguments and their machine values
 abbrev pub Passed : Type 0 → Type 0 → Type 0
@@ -84,7 +88,7 @@ counted {𝓤 = 𝓤} {H = H} {A = A} {W = W} t n h = owned t usize (Is usize) (
 
 module _ {M : Type 1} {𝓤 : URA M} {H : Heap 𝓤} {A : Atoms 𝓤} (W : Given 𝓤 H A) (κ : Lft) (s : RefT (List ℕ)) where
   -- it may be lent on
-  abbrev pub lent : Lending 𝓤 H A
+  abbrev pub lent : Lendable 𝓤 H A
   lent = record { what = Lent κ s; twice = shr-slice-copy 𝓤 H A W (named 0) κ u8 .twice s (textVal s ∷ []) }
 
   -- what a walk holds: a token of the lifetime, and the text

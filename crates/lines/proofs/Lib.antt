@@ -3,7 +3,6 @@ pub mod Fields
 pub mod Puts
 pub mod Long
 pub mod Back
-mod Thin
 mod Held
 mod Results
 mod Over

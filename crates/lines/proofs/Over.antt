@@ -25,9 +25,9 @@ use denote.Slice.{slice-vals, shr-slice-tells}
 use denote.Triple.Clauses.{Clauses, Ended, closing}
 use denote.Triple.Spec.{Meets, tripleOf}
 use denote.Triple.Statement.{Contract, Triple}
-use denote.Triple.Walked.{goes-none, goes-none-slice}
 use Rattle.lines.specs.Reader.{readerAt}
-use Rattle.lines.proofs.Thin.{Out, asks, met}
+use Rattle.walks.proofs.Walking.{Returned}
+use Rattle.walks.proofs.Thin.{asks-lent, met}
 use Rattle.lines.proofs.Held.{Reader, textVal, readerVal, reader-spelled, to-text, to-text-at, to-reader, to-reader-at, Lent, lent, hold}
 use Rattle.lines.proofs.Held.{as-text, as-reader-at, text-lends, reader-lends, text-fits, reader-fits}
 use Rattle.lines.proofs.readers.reader as reader
@@ -53,14 +53,13 @@ module _ (R : Slot 1) where
     ReaderWalk c =
         (κ : Lft) (q : Share) (s : RefT (List ℕ)) (n : ℕ) (g : c (κ, tt) (readerAt s n, tt) .ghost) → WT (textVal s) → n < 2 ^ 64
         → ent 𝓤 (mean 𝓤 H A (hold W κ s q))
-        (WpFn 𝓤 H (𝓣 .C) (𝓣 .Λ) fn (readerVal (readerAt s n) ∷ []) (Out W OverReader c (to-reader κ q s n, g)))
+        (WpFn 𝓤 H (𝓣 .C) (𝓣 .Λ) fn (readerVal (readerAt s n) ∷ []) (Returned 𝓤 H A OverReader c (to-reader κ q s n, g)))
 
     pub reader-met : (c : Clauses 𝓤 OverReader) → ReaderWalk c
         → Meets 𝓤 H A (OverReader .signature) (WpFn 𝓤 H (𝓣 .C) (𝓣 .Λ) fn) (closing 𝓤 H A OverReader c)
     reader-met c walk =
         met W OverReader c fn 𝓣 (λ κs. ((λ d. readerVal d ∷ []), tt))
-        (goes-none 𝓤 H A W 1 (λ κs. Reader (κs .0)) yes (λ κs x f. refl), tt)
-        (λ κs. (reader-spelled (κs .0) .tells, tt))
+        (λ κs x f. refl, tt) (λ κs. (reader-spelled (κs .0) .tells, tt))
         (λ κs a. Lent (κs .0) (a .0 .text)) (λ κs a. reader-lends W (κs .0) (a .0 .text) [] tt tt (a .0 .at))
         (λ κs qs o a g are.
         let fits = reader-fits W (κs .0) (a .0 .text) (a .0 .at) (are .0) in
@@ -70,14 +69,14 @@ module _ (R : Slot 1) where
     abbrev pub TextWalk : Clauses 𝓤 OverText → Type 1
     TextWalk c =
         (κ : Lft) (q : Share) (s : RefT (List ℕ)) (n : ℕ) (g : c (κ, tt) (s, (n, tt)) .ghost) → WT (textVal s) → n < 2 ^ 64
-        → ent 𝓤 (mean 𝓤 H A (hold W κ s q)) (WpFn 𝓤 H (𝓣 .C) (𝓣 .Λ) fn (textVal s ∷ vint w64 n ∷ []) (Out W OverText c (to-text-at κ q s n, g)))
+        → ent 𝓤 (mean 𝓤 H A (hold W κ s q))
+        (WpFn 𝓤 H (𝓣 .C) (𝓣 .Λ) fn (textVal s ∷ vint w64 n ∷ []) (Returned 𝓤 H A OverText c (to-text-at κ q s n, g)))
 
     pub text-met : (c : Clauses 𝓤 OverText) → TextWalk c
         → Meets 𝓤 H A (OverText .signature) (WpFn 𝓤 H (𝓣 .C) (𝓣 .Λ) fn) (closing 𝓤 H A OverText c)
     text-met c walk =
         met W OverText c fn 𝓣 (λ κs. (slice-vals, (uint-vals w64, tt)))
-        (goes-none-slice 𝓤 H A W 1 (0 ∷ []) tt (plain (λ _. u8)) yes, (goes-none 𝓤 H A W 1 (λ _. usize) yes (λ κs x f. refl), tt))
-        (λ κs. (shr-slice-tells (named 0) (κs .0) u8, (uint-tells w64, tt)))
+        (λ κs x f. refl, (λ κs x f. refl, tt)) (λ κs. (shr-slice-tells (named 0) (κs .0) u8, (uint-tells w64, tt)))
         (λ κs a. Lent (κs .0) (a .0)) (λ κs a. text-lends W (κs .0) (a .0) (usize ∷ []) (a .1) (vint w64 (a .1 .0) ∷ [], tt))
         (λ κs qs o a g are. walk (κs .0) (qs .0) (a .0) (a .1 .0) g (text-fits W (κs .0) (a .0) (are .0)) (are .1 .0 .1))
 
@@ -98,8 +97,8 @@ module _ {M : Type 1} (𝓤 : URA M) (H : Heap 𝓤) (A : Atoms 𝓤) (mem : Mem
         (hold W κ s q ∷ Γ) (runs C Λ E (seq (call f xs d) then) p)
     asks-start t κ q s fm known os =
         step (λ k.
-        asks W reader.ended (reader.clauses 𝓤 H A mem run) (to-text κ q s, tt) (readerAt s 0) (reader-spelled κ) (λ r ws. id⊢ 𝓤 _)
-        t (lent W κ s) (as-text W κ s) (id⊢ 𝓤 _) fm known os (λ _. k))
+        asks-lent W reader.ended (reader.clauses 𝓤 H A mem run) (to-text κ q s, tt) (lent W κ s) t (readerAt s 0) (reader-spelled κ) (λ r ws. id⊢ 𝓤 _)
+        (as-text W κ s) (id⊢ 𝓤 _) fm known os (λ _. k))
 
     pub asks-rest : K → (κ : Lft) (q : Share) (s : RefT (List ℕ)) (m n : ℕ) → m < 2 ^ 64 → n < 2 ^ 64
         → FmC 𝓤 H (W .laws) C → Triple 𝓤 (C f) Rest → Opds K W (hold W κ s q ∷ Γ) E xs (readerVal (readerAt s m) ∷ vint w64 n ∷ [])
@@ -107,5 +106,5 @@ module _ {M : Type 1} (𝓤 : URA M) (H : Heap 𝓤) (A : Atoms 𝓤) (mem : Mem
         (hold W κ s q ∷ Γ) (runs C Λ E (seq (call f xs d) then) p)
     asks-rest t κ q s m n g h fm known os =
         step (λ k.
-        asks W rest.ended (rest.clauses 𝓤 H A mem run) (to-reader-at κ q s m n, tt) (readerAt s n) (reader-spelled κ) (λ r ws. id⊢ 𝓤 _)
-        t (lent W κ s) (as-reader-at W κ s m n g h) (id⊢ 𝓤 _) fm known os (λ _. k))
+        asks-lent W rest.ended (rest.clauses 𝓤 H A mem run) (to-reader-at κ q s m n, tt) (lent W κ s) t (readerAt s n) (reader-spelled κ) (λ r ws. id⊢ 𝓤 _)
+        (as-reader-at W κ s m n g h) (id⊢ 𝓤 _) fm known os (λ _. k))

@@ -10,12 +10,13 @@ use prog.Wp.{Heap}
 use ghost.Atoms.{Atoms}
 use types.Kit.{Given}
 use contract.Lifetimes.{Lfts}
-use denote.RattleType.{RattleType}
+use denote.RattleType.{RattleType, Denots, Valss}
 use denote.Laws.{Is, Ises, Tells, Spells, Tellss, Lawful, Lawfuls}
 use denote.Builtin.{u32}
 use denote.Ref.{RefT, now}
 use denote.Slice.{MutSlice, ShrSlice, slice-vals, mut-slice-tells, shr-slice-tells, mut-slice-lawful, shr-slice-lawful}
 use Rattle.copies.specs.Tables.{Copies, tables}
+use Rattle.walks.proofs.Passing.{AllUntouched, table-untouched}
 use Rattle.walks.proofs.Locals.{Has, room, has}
 
 -- A kind of column: its type at a lifetime, and its machine values.
@@ -62,18 +63,36 @@ module _ (C : Column) (Ts : List RattleType) where
   told sp tl i (suc n) κs = (C .tells i (κs .0), told sp tl (suc i) n (κs .1))
 
   -- and are of the types
-  pub lawful : {M : Type 1} (𝓤 : URA M) (H : Heap 𝓤) (A : Atoms 𝓤) → Given 𝓤 H A → Lawfuls 𝓤 H A Ts → (i n : ℕ) (κs : Lfts n) → Lawfuls 𝓤 H A (Cols i n κs)
+  pub lawful : {M : Type 1} (𝓤 : URA M) (H : Heap 𝓤) (A : Atoms 𝓤) → Given 𝓤 H A → Lawfuls 𝓤 H A Ts → (i n : ℕ) (κs : Lfts n)
+      → Lawfuls 𝓤 H A (Cols i n κs)
   lawful 𝓤 H A W ls i zero κs = ls
   lawful 𝓤 H A W ls i (suc n) κs = (C .lawful 𝓤 H A W i (κs .0), lawful 𝓤 H A W ls (suc i) n (κs .1))
 
+-- ---- columns lent as `&mut` that were never touched
+module _ {M : Type 1} (𝓤 : URA M) (H : Heap 𝓤) (A : Atoms 𝓤) (W : Given 𝓤 H A) (Ts : List RattleType)
+    (others : (b : Denots Ts) (us : Valss Ts) → AllUntouched 𝓤 H A Ts b us) where
+  -- with the others they are all untouched
+  abbrev pub columns-untouched : (i n : ℕ) (κs : Lfts n) (a : Denots (Cols changing Ts i n κs)) (vss : Valss (Cols changing Ts i n κs))
+      → AllUntouched 𝓤 H A (Cols changing Ts i n κs) a vss
+  columns-untouched i zero κs a vss = others a vss
+  columns-untouched i (suc n) κs a vss =
+      (table-untouched 𝓤 H A W (named i) (κs .0) u32 (a .0) (vss .0), columns-untouched (suc i) n (κs .1) (a .1) (vss .1))
+
 -- ---- the ten columns as the lower layer's tables
+-- ten, and then others
+abbrev Ten : Type 0 → Type 0 → Type 0
+Ten A X = A × (A × (A × (A × (A × (A × (A × (A × (A × (A × X)))))))))
+
 -- as they are left
-abbrev pub ten-left : {X : Type 0} → (List ℕ × (List ℕ × (List ℕ × (List ℕ × (List ℕ × (List ℕ × (List ℕ × (List ℕ × (List ℕ × (List ℕ × X)))))))))) → Copies
-ten-left ws = tables (ws .0) (ws .1 .0) (ws .1 .1 .0) (ws .1 .1 .1 .0) (ws .1 .1 .1 .1 .0) (ws .1 .1 .1 .1 .1 .0) (ws .1 .1 .1 .1 .1 .1 .0) (ws .1 .1 .1 .1 .1 .1 .1 .0) (ws .1 .1 .1 .1 .1 .1 .1 .1 .0) (ws .1 .1 .1 .1 .1 .1 .1 .1 .1 .0)
+abbrev pub ten-left : {X : Type 0} → Ten (List ℕ) X → Copies
+ten-left ws =
+    tables (ws .0) (ws .1 .0) (ws .1 .1 .0) (ws .1 .1 .1 .0) (ws .1 .1 .1 .1 .0) (ws .1 .1 .1 .1 .1 .0) (ws .1 .1 .1 .1 .1 .1 .0)
+    (ws .1 .1 .1 .1 .1 .1 .1 .0) (ws .1 .1 .1 .1 .1 .1 .1 .1 .0) (ws .1 .1 .1 .1 .1 .1 .1 .1 .1 .0)
 
 -- as they were lent
-abbrev pub ten-lent : {X : Type 0} → (RefT (List ℕ) × (RefT (List ℕ) × (RefT (List ℕ) × (RefT (List ℕ) × (RefT (List ℕ) × (RefT (List ℕ) × (RefT (List ℕ) × (RefT (List ℕ) × (RefT (List ℕ) × (RefT (List ℕ) × X)))))))))) → Copies
-ten-lent cs = tables (now (cs .0)) (now (cs .1 .0)) (now (cs .1 .1 .0)) (now (cs .1 .1 .1 .0)) (now (cs .1 .1 .1 .1 .0)) (now (cs .1 .1 .1 .1 .1 .0)) (now (cs .1 .1 .1 .1 .1 .1 .0)) (now (cs .1 .1 .1 .1 .1 .1 .1 .0)) (now (cs .1 .1 .1 .1 .1 .1 .1 .1 .0)) (now (cs .1 .1 .1 .1 .1 .1 .1 .1 .1 .0))
+abbrev pub ten-lent : {X : Type 0} → Ten (RefT (List ℕ)) X → Copies
+ten-lent cs = tables (now (cs .0)) (now (cs .1 .0)) (now (cs .1 .1 .0)) (now (cs .1 .1 .1 .0)) (now (cs .1 .1 .1 .1 .0)) (now (cs .1 .1 .1 .1 .1 .0))
+    (now (cs .1 .1 .1 .1 .1 .1 .0)) (now (cs .1 .1 .1 .1 .1 .1 .1 .0)) (now (cs .1 .1 .1 .1 .1 .1 .1 .1 .0)) (now (cs .1 .1 .1 .1 .1 .1 .1 .1 .1 .0))
 
 -- ---- the locals that hold columns lent on, each behind one that held its pointer
 abbrev pub on : List Val → List Has

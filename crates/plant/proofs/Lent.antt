@@ -82,6 +82,7 @@ module _ (t : Copies) (bs : List Job) where
     holders-few few e = rw (few-short few) e
 
     -- of sixteen or more, by the sixteen that are taken out
-    pub holders-taken : (all : List Job) → jobCount ≤ length bs → all ≡ take jobCount bs → h ≡ holdersOf (plant t all) s → h ≡ holdersOf (plant t bs) s
+    pub holders-taken : (all : List Job) → jobCount ≤ length bs → all ≡ take jobCount bs → h ≡ holdersOf (plant t all) s
+        → h ≡ holdersOf (plant t bs) s
     holders-taken all enough first e =
         e ∙ (ap (λ (l : List Job). holdersOf (plant t l) s) first ∙ sym (holders-by-sixteen (plant t bs) s (enough-slots enough)))

@@ -1,4 +1,5 @@
--- The first slots of a row stored over those of another, one by one, as a loop does: a store more is a slot more, and at the end the first slots are the row's and the others stay. Assumes nothing.
+-- The first slots of a row stored over those of another, one by one, as a loop does: a store more is a slot more, and at the end the first slots are
+-- the row's and the others stay. Assumes nothing.
 use mathlib.Core.Path.{_≡_, sym, _∙_, ap}
 use Prim.Native.Nat.{ℕ, suc, _≤_, _<_, _+_}
 use native.Mathlib.Omega.{arith}
@@ -15,7 +16,8 @@ module _ {A : Type 0} where
   -- one store more
   sets-more : (vs l : List A) (i : ℕ) (a : A) → set (sets l i vs) (i + length vs) a ≡ sets l i (vs ++ (a ∷ []))
   sets-more [] l i a = ap (λ (j : ℕ). set l j a) (add-zero i)
-  sets-more (v ∷ vs) l i a = ap (λ (j : ℕ). set (sets (set l i v) (suc i) vs) j a) (add-suc i (length vs) ∙ sym (suc-add i (length vs))) ∙ sets-more vs (set l i v) (suc i) a
+  sets-more (v ∷ vs) l i a =
+      ap (λ (j : ℕ). set (sets (set l i v) (suc i) vs) j a) (add-suc i (length vs) ∙ sym (suc-add i (length vs))) ∙ sets-more vs (set l i v) (suc i) a
 
   -- a turn of the loop
   pub moved-next : (d : A) (from to : List A) (n : ℕ) → n < length from → set (moved from to n) n (getD from n d) ≡ moved from to (suc n)

@@ -5,3 +5,4 @@ pub mod TableFirst
 pub mod Calling
 pub mod Turns
 pub mod Passing
+pub mod Thin

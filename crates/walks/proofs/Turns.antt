@@ -33,11 +33,14 @@ module _ {M : Type 1} {𝓤 : URA M} {H : Heap 𝓤} (𝓣 : Tables 𝓤 H) (E :
 
   module _ {A : Atoms 𝓤} {K : Type 0} {W : Given 𝓤 H A} where
     -- the test fails, and the loop is left
-    pub leaves : {Γ : List (Item 𝓤)} {c : Operand} {b : Body} → K → (X : SProp 𝓤) → Opd K W Γ E c (vbool false) → Step K W Γ (runs (𝓣 .C) (𝓣 .Λ) E rest (atRet E P)) Γ (Turning (seq (cond c skip (exit 1)) b) X)
+    pub leaves : {Γ : List (Item 𝓤)} {c : Operand} {b : Body} → K → (X : SProp 𝓤) → Opd K W Γ E c (vbool false)
+        → Step K W Γ (runs (𝓣 .C) (𝓣 .Λ) E rest (atRet E P)) Γ (Turning (seq (cond c skip (exit 1)) b) X)
     unfolding afterTurn
     leaves t X test = step (λ s. leaves-loop t test $ exec t (𝓣 .C) (𝓣 .Λ) E rest (atRet E P) $ s)
 
-    module _ (t : K) (turn : Body) (n : ℕ) (At : ℕ → List (Item 𝓤)) (more : (i : ℕ) (X : SProp 𝓤) → i < n → Seq K W (At (suc i)) (Turned X) → Seq K W (At i) (Turning turn X)) (ends : (X : SProp 𝓤) → Seq K W (At n) (Turning turn X)) where
+    module _ (t : K) (turn : Body) (n : ℕ) (At : ℕ → List (Item 𝓤))
+        (more : (i : ℕ) (X : SProp 𝓤) → i < n → Seq K W (At (suc i)) (Turned X) → Seq K W (At i) (Turning turn X))
+        (ends : (X : SProp 𝓤) → Seq K W (At n) (Turning turn X)) where
       -- from turn i on
       onward : (left i : ℕ) → i + left ≡ n → ent 𝓤 (⋆ 𝓤 H A (At i)) (𝓣 .Λ turn E Leaving)
       unfolding afterTurn
@@ -46,7 +49,8 @@ module _ {M : Type 1} {𝓤 : URA M} {H : Heap 𝓤} (𝓣 : Tables 𝓤 H) (E :
           (via 𝓤 _ (ends (never 𝓤) .prf) (unroll 𝓤 H (W .laws) 𝓣 E turn Leaving (never 𝓤) (neverE 𝓤 (𝓣 .Λ turn E Leaving))))
       onward (suc left) i e =
           let Next : SProp 𝓤 = ⋆ 𝓤 H A (At (suc i)) in
-          via 𝓤 _ (more i Next (omega arith) (by t (id⊢ 𝓤 Next)) .prf) (unroll 𝓤 H (W .laws) 𝓣 E turn Leaving Next (onward left (suc i) (omega arith)))
+          via 𝓤 _ (more i Next (omega arith) (by t (id⊢ 𝓤 Next)) .prf)
+          (unroll 𝓤 H (W .laws) 𝓣 E turn Leaving Next (onward left (suc i) (omega arith)))
 
       -- the loop, and then the rest
       pub turns : Seq K W (At 0) (runs (𝓣 .C) (𝓣 .Λ) E (seq (block (loop turn)) rest) (atRet E P))

@@ -11,15 +11,15 @@ use contract.Monad.{Fun, factI}
 use contract.Running.{givenOf, tables, tablesOf}
 use sound.WpLaws.{fmOf}
 use types.Kit.{Given, _$_, _∵_, !, qed, by}
-use types.Run.{look, of-opd, returns, enter, free0}
+use types.Run.{look, of-opd, returns, free0}
 use denote.Ref.{now}
 use denote.Triple.Spec.{Meets, tripleOf}
 use denote.Triple.Statement.{Contract, Triple}
 use denote.Triple.Table.{entered, cited}
 use Rattle.lines.specs.Texts.{lineAt}
 use Rattle.lines.specs.Reader.{readerAt}
-use Rattle.lines.proofs.Thin.{allocates, passes1, freed, reads2, reads-field, sets, takes, asks, ends}
-use Rattle.lines.proofs.Held.{readerVal, to-text-at, to-reader, lent, hold, as-text-at, as-reader, fits-at}
+use Rattle.walks.proofs.Thin.{begins, frees-first, reads2, reads-field, sets, takes, asks-lent, ends}
+use Rattle.lines.proofs.Held.{readerVal, to-text-at, to-reader, lent, hold, as-text-at, fits-at}
 use Rattle.lines.proofs.Results.{foundVal, found-spelled, found-fits, a-line}
 use Rattle.lines.proofs.Over.{ReaderWalk, reader-met}
 use Rattle.lines.proofs.texts.line_from as line-from
@@ -42,17 +42,16 @@ module _ {M : Type 1} (𝓤 : URA M) (H : Heap 𝓤) (A : Atoms 𝓤) (W : Given
   walk : ReaderWalk (me.signature .result) W code.function 𝓣 (me.clauses 𝓤 H A mem run)
   walk κ q s n g wt h =
       let line = lineAt (now s) n in
-      qed W (hold W κ s q ∷ []) ∵ enter ! (𝓣 .C) (𝓣 .Λ) code.function (readerVal (readerAt s n) ∷ []) _ $
-      allocates ! (λ l. passes1 ! refl (tt, fits-at s n wt h) $
+      qed W (hold W κ s q ∷ []) ∵ begins ! (𝓣 .C) (𝓣 .Λ) code.function (readerVal (readerAt s n) ∷ []) _ ((tt, fits-at s n wt h), tt) (λ bs.
       -- _2 = _1.text; _3 = _1.at; _0 = line_from(_2, _3)
       sets ! (of-opd ! (reads-field ! refl refl refl)) refl (tt, wt) $
       sets ! (of-opd ! (reads-field ! refl refl refl)) refl (tt, record { fits = h }) $
-      asks W line-from.ended (line-from.clauses 𝓤 H A mem run) (to-text-at κ q s n, tt) line found-spelled (λ r ws. id⊢ 𝓤 _)
-      ! (lent W κ s) (as-text-at W κ s n h) (id⊢ 𝓤 _) (fmOf 𝓤 H (W .laws) 𝓣) known (reads2 ! refl refl) (λ is.
+      asks-lent W line-from.ended (line-from.clauses 𝓤 H A mem run) (to-text-at κ q s n, tt) (lent W κ s) ! line found-spelled (λ r ws. id⊢ 𝓤 _)
+      (as-text-at W κ s n h) (id⊢ 𝓤 _) (fmOf 𝓤 H (W .laws) 𝓣) known (reads2 ! refl refl) (λ is.
       takes ! refl (found-fits W line is) $
-      returns ! (look ! 1 refl) $ freed ! $ freed ! $ freed ! $ freed ! $ free0 ! $
+      returns ! (look ! 2 refl) $ frees-first ! $ frees-first ! $ frees-first ! $ frees-first ! $ free0 ! $
       by ! (ends W me.ended (me.clauses 𝓤 H A mem run) (to-reader κ q s n, tt) (lent W κ s) (tt, tt) line (foundVal line)
-      (factI 𝓤 _ (emp 𝓤) refl) (as-reader W κ s n h) (a-line W κ s line is))))
+      (factI 𝓤 _ (emp 𝓤) refl) (a-line W κ s line is))))
 
   -- so it meets the contract
   meets : Meets 𝓤 H A me.signature (WpFn 𝓤 H (𝓣 .C) (𝓣 .Λ) code.function) (me.spec 𝓤 H A mem run)

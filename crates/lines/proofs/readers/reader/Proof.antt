@@ -16,18 +16,16 @@ use contract.Monad.{Fun, factI}
 use contract.Running.{givenOf, tables, tablesOf}
 use types.Kit.{Given, mean, _$_, _∵_, !, qed, by}
 use types.Part.{agg}
-use types.Run.{look, lit, and-then, no-more, returns, enter, free0}
+use types.Run.{look, lit, and-then, no-more, returns, free0}
 use denote.Builtin.{u8}
-use denote.Exit.{yes}
 use denote.Ref.{RefT}
-use denote.Signature.{plain}
 use denote.Slice.{slice-vals, shr-slice-tells}
 use denote.Triple.Spec.{Meets, tripleOf}
 use denote.Triple.Table.{entered}
-use denote.Triple.Walked.{goes-none-slice}
 use Rattle.lines.specs.Reader.{readerAt}
-use Rattle.lines.proofs.Thin.{allocates, passes1, freed, reads, sets, Out, ends, met}
-use Rattle.lines.proofs.Held.{textVal, readerVal, to-text, Lent, lent, hold, a-reader, as-text, text-lends, text-fits, fits-at}
+use Rattle.walks.proofs.Walking.{Returned}
+use Rattle.walks.proofs.Thin.{begins, frees-first, reads, sets, ends, met}
+use Rattle.lines.proofs.Held.{textVal, readerVal, to-text, Lent, lent, hold, a-reader, text-lends, text-fits, fits-at}
 use Rattle.lines.proofs.readers.reader.Key.{name as #own}
 use Rattle.lines.proofs.readers.reader as me
 use Rattle.lines.proofs.readers.reader.Statement as stated
@@ -37,21 +35,20 @@ module _ {M : Type 1} (𝓤 : URA M) (H : Heap 𝓤) (A : Atoms 𝓤) (W : Given
     (𝓣 : Tables 𝓤 H) where
   -- the code, statement by statement
   walk : (κ : Lft) (q : Share) (s : RefT (List ℕ)) → WT (textVal s) → ent 𝓤 (mean 𝓤 H A (hold W κ s q))
-      (WpFn 𝓤 H (𝓣 .C) (𝓣 .Λ) code.function (textVal s ∷ []) (Out W me.ended (me.clauses 𝓤 H A mem run) (to-text κ q s, tt)))
+      (WpFn 𝓤 H (𝓣 .C) (𝓣 .Λ) code.function (textVal s ∷ []) (Returned 𝓤 H A me.ended (me.clauses 𝓤 H A mem run) (to-text κ q s, tt)))
   walk κ q s wt =
-      qed W (hold W κ s q ∷ []) ∵ enter ! (𝓣 .C) (𝓣 .Λ) code.function (textVal s ∷ []) _ $
-      allocates ! (λ l. passes1 ! refl (tt, wt) $
+      qed W (hold W κ s q ∷ []) ∵ begins ! (𝓣 .C) (𝓣 .Λ) code.function (textVal s ∷ []) _ ((tt, wt), tt) (λ bs.
       -- _0 = LineReader { _1, 0 }
       sets ! (agg ! (and-then ! (reads ! refl) (and-then ! (lit ! tt) (no-more !)))) refl (tt, fits-at s 0 wt (lit< tt)) $
-      returns ! (look ! 1 refl) $ freed ! $ freed ! $ free0 ! $
+      returns ! (look ! 2 refl) $ frees-first ! $ frees-first ! $ free0 ! $
       by ! (ends W me.ended (me.clauses 𝓤 H A mem run) (to-text κ q s, tt) (lent W κ s) (tt, tt) (readerAt s 0) (readerVal (readerAt s 0))
-      (factI 𝓤 _ (emp 𝓤) refl) (as-text W κ s) (a-reader W κ s 0 (lit< tt))))
+      (factI 𝓤 _ (emp 𝓤) refl) (a-reader W κ s 0 (lit< tt))))
 
   -- so it meets the contract
   meets : Meets 𝓤 H A me.signature (WpFn 𝓤 H (𝓣 .C) (𝓣 .Λ) code.function) (me.spec 𝓤 H A mem run)
   meets =
       met W me.ended (me.clauses 𝓤 H A mem run) code.function 𝓣 (λ κs. (slice-vals, tt))
-      (goes-none-slice 𝓤 H A W 1 (0 ∷ []) tt (plain (λ _. u8)) yes, tt) (λ κs. (shr-slice-tells (named 0) (κs .0) u8, tt))
+      (λ κs x f. refl, tt) (λ κs. (shr-slice-tells (named 0) (κs .0) u8, tt))
       (λ κs a. Lent (κs .0) (a .0)) (λ κs a. text-lends W (κs .0) (a .0) [] tt tt)
       (λ κs qs o a g are. walk (κs .0) (qs .0) (a .0) (text-fits W (κs .0) (a .0) (are .0)))
 

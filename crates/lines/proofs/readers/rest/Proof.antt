@@ -15,18 +15,17 @@ use contract.Monad.{Fun, factI}
 use contract.Running.{givenOf, tables, tablesOf}
 use types.Kit.{Given, mean, _$_, _∵_, !, qed, by}
 use types.Part.{agg}
-use types.Run.{look, of-opd, returns, enter, free0}
+use types.Run.{look, of-opd, returns, free0}
 use denote.Builtin.{usize}
-use denote.Exit.{yes}
 use denote.Plain.{uint-vals, uint-tells}
 use denote.Ref.{RefT}
 use denote.Triple.Spec.{Meets, tripleOf}
 use denote.Triple.Table.{entered}
-use denote.Triple.Walked.{goes-none}
 use Rattle.lines.specs.Reader.{readerAt}
-use Rattle.lines.proofs.Thin.{allocates, passes2, freed, reads2, reads-field, sets, Out, ends, met}
-use Rattle.lines.proofs.Held.{Reader, textVal, readerVal, reader-spelled, to-reader-at, Lent, lent, hold}
-use Rattle.lines.proofs.Held.{a-reader, as-reader-at, reader-lends, reader-fits, fits-at}
+use Rattle.walks.proofs.Walking.{Returned}
+use Rattle.walks.proofs.Thin.{begins, frees-first, reads2, reads-field, sets, ends, met}
+use Rattle.lines.proofs.Held.{textVal, readerVal, reader-spelled, to-reader-at, Lent, lent, hold}
+use Rattle.lines.proofs.Held.{a-reader, reader-lends, reader-fits, fits-at}
 use Rattle.lines.proofs.readers.rest.Key.{name as #own}
 use Rattle.lines.proofs.readers.rest as me
 use Rattle.lines.proofs.readers.rest.Statement as stated
@@ -37,23 +36,22 @@ module _ {M : Type 1} (𝓤 : URA M) (H : Heap 𝓤) (A : Atoms 𝓤) (W : Given
   -- the code, statement by statement
   walk : (κ : Lft) (q : Share) (s : RefT (List ℕ)) (m n : ℕ) → WT (textVal s) → m < 2 ^ 64 → n < 2 ^ 64 → ent 𝓤 (mean 𝓤 H A (hold W κ s q))
       (WpFn 𝓤 H (𝓣 .C) (𝓣 .Λ) code.function (readerVal (readerAt s m) ∷ vint w64 n ∷ [])
-      (Out W me.ended (me.clauses 𝓤 H A mem run) (to-reader-at κ q s m n, tt)))
+      (Returned 𝓤 H A me.ended (me.clauses 𝓤 H A mem run) (to-reader-at κ q s m n, tt)))
   walk κ q s m n wt g h =
-      qed W (hold W κ s q ∷ []) ∵ enter ! (𝓣 .C) (𝓣 .Λ) code.function (readerVal (readerAt s m) ∷ vint w64 n ∷ []) _ $
-      allocates ! (λ l. passes2 ! refl (tt, fits-at s m wt g) refl (tt, record { fits = h }) $
+      qed W (hold W κ s q ∷ []) ∵ begins ! (𝓣 .C)
+      (𝓣 .Λ) code.function (readerVal (readerAt s m) ∷ vint w64 n ∷ []) _ ((tt, fits-at s m wt g), ((tt, record { fits = h }), tt)) (λ bs.
       -- _3 = _1.text; _0 = LineReader { _3, _2 }
       sets ! (of-opd ! (reads-field ! refl refl refl)) refl (tt, wt) $
       sets ! (agg ! (reads2 ! refl refl)) refl (tt, fits-at s n wt h) $
-      returns ! (look ! 1 refl) $ freed ! $ freed ! $ freed ! $ freed ! $ free0 ! $
+      returns ! (look ! 2 refl) $ frees-first ! $ frees-first ! $ frees-first ! $ frees-first ! $ free0 ! $
       by ! (ends W me.ended (me.clauses 𝓤 H A mem run) (to-reader-at κ q s m n, tt) (lent W κ s) (tt, (tt, tt)) (readerAt s n)
-      (readerVal (readerAt s n)) (factI 𝓤 _ (emp 𝓤) refl) (as-reader-at W κ s m n g h) (a-reader W κ s n h)))
+      (readerVal (readerAt s n)) (factI 𝓤 _ (emp 𝓤) refl) (a-reader W κ s n h)))
 
   -- so it meets the contract
   meets : Meets 𝓤 H A me.signature (WpFn 𝓤 H (𝓣 .C) (𝓣 .Λ) code.function) (me.spec 𝓤 H A mem run)
   meets =
       met W me.ended (me.clauses 𝓤 H A mem run) code.function 𝓣 (λ κs. ((λ d. readerVal d ∷ []), (uint-vals w64, tt)))
-      (goes-none 𝓤 H A W 1 (λ κs. Reader (κs .0)) yes (λ κs x f. refl), (goes-none 𝓤 H A W 1 (λ _. usize) yes (λ κs x f. refl), tt))
-      (λ κs. (reader-spelled (κs .0) .tells, (uint-tells w64, tt))) (λ κs a. Lent (κs .0) (a .0 .text))
+      (λ κs x f. refl, (λ κs x f. refl, tt)) (λ κs. (reader-spelled (κs .0) .tells, (uint-tells w64, tt))) (λ κs a. Lent (κs .0) (a .0 .text))
       (λ κs a. reader-lends W (κs .0) (a .0 .text) (usize ∷ []) (a .1) (vint w64 (a .1 .0) ∷ [], tt) (a .0 .at))
       (λ κs qs o a g are.
       let fits = reader-fits W (κs .0) (a .0 .text) (a .0 .at) (are .0) in

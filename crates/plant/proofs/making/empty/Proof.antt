@@ -1,4 +1,5 @@
--- `plant::making::empty` meets its contract: a walk of its MIR, by hand. Fewer than sixteen slots are SHORT; else the columns are passed on for good to the
+-- `plant::making::empty` meets its contract: a walk of its MIR, by hand. Fewer than sixteen slots are SHORT; else the columns are passed on for good
+-- to the
 -- machine's `clear`, which says whether one is short, and if none is the jobs in the sixteen slots are closed. Of the two functions that it calls
 -- only the contracts are known. Assumes nothing.
 use Prim.Native.Nat.{ℕ, _≤_}
@@ -21,11 +22,13 @@ use ghost.Atoms.{Atoms, sem}
 use contract.Lifetimes.{Lfts, Shares, toks}
 use contract.Monad.{Fun, factI}
 use contract.Running.{givenOf, tables, tablesOf}
-use types.Kit.{Given, Item, Sq, runs, anyQ, ‵, raw, _⊛_, ⋆, atRet, _$_, _∵_, !, qed, by, move, use1, split, join, rewrite, fsplit, fjoin, suffices, frame, done}
+use types.Kit.{Given, Item, Sq, runs, anyQ, ‵, raw, _⊛_, ⋆, atRet, _$_, _∵_, !, qed, by, move, use1, split, join, rewrite, fsplit, fjoin, suffices}
+use types.Kit.{frame, done}
 use types.Part.{agg, whole, sub, look-in}
-use types.Run.{look, init, forget, stop, hop, fld, from, load, lit, addr, of-opd, un, bin, and-then, no-more, assigns, first, branches, skips, exec, land, returns, returns-within}
-use sound.WpLaws.{FmC, fmOf, WpFn-mono}
-use denote.Builtin.{u32, unit}
+use types.Run.{look, init, forget, stop, hop, fld, from, load, lit, addr, of-opd, un, bin, and-then, no-more, assigns, first, branches, skips, exec}
+use types.Run.{land, returns, returns-within}
+use sound.WpLaws.{FmC, fmOf}
+use denote.Builtin.{unit}
 use denote.Enum.Laws as enum
 use denote.Laws.{Is, Are, Ises, Spells, valss, all-typed}
 use denote.RattleType.{RattleType, Denots, flat, owns}
@@ -37,7 +40,7 @@ use denote.Triple.Entry.{Args, Vals, onEntry}
 use denote.Triple.Spec.{Meets, tripleOf}
 use denote.Triple.Statement.{Contract, Triple}
 use denote.Triple.Table.{entered, cited}
-use denote.Triple.Walked.{says, Stays, walkOf, Walks, ends-at, walked, walk-meets}
+use denote.Triple.Walked.{says, Stays, walkOf, ends-at}
 use Rattle.words.specs.declared.Answer.{Answer}
 use Rattle.words.specs.declared.Answer.the-variants.{Done, Short}
 use Rattle.words.specs.Numbers.{jobCount}
@@ -54,14 +57,14 @@ use Rattle.machine.proofs.clear.Symbol.{name as #core}
 use Rattle.machine.proofs.clear.Met as core-thm
 use Rattle.plant.specs.Calls.{made}
 use Rattle.walks.proofs.Calling.{ToTable, asks, asks-table}
-use Rattle.plant.proofs.Columns.{changing, Cols, spelt, told, lawful, ten-left, ten-lent, on}
+use Rattle.plant.proofs.Columns.{changing, Cols, spelt, told, lawful, columns-untouched, ten-left, ten-lent, on}
 use Rattle.plant.proofs.Lent.{empty-few, empty-unclear, empty-clear}
 use Rattle.walks.proofs.Locals.{Has, room, has, locals, freed}
 use Rattle.walks.proofs.Passing.{all-said, all-fit, all-go, AllUntouched, lasts-of, all-untouched, table-said, table-untouched}
 use Rattle.plant.proofs.Row.{R}
 use Rattle.walks.proofs.TableFirst.{asMut}
 use Rattle.plant.proofs.Values.{fails, not-fails, unit-typed, bool-typed, short-val, short-is, short-typed, done-val, done-is, done-typed}
-use Rattle.walks.proofs.Walking.{places, cell, Blocks, env, enters}
+use Rattle.walks.proofs.Walking.{places, cell, Blocks, env, enters, walk-met}
 use Rattle.plant.proofs.slots.close_slots as close
 use Rattle.plant.proofs.slots.close_slots.Symbol as close-def
 use Rattle.plant.proofs.slots.close_slots.Symbol.{name as #close}
@@ -177,51 +180,20 @@ module _ {M : Type 1} (𝓤 : URA M) (H : Heap 𝓤) (A : Atoms 𝓤) (mem : Mem
           owned ! An.the-row (Is An.the-row) (enum.makes An.the-type An′.the-plain 𝓤 H A) r _ is $ move ! (1 ∷ 0 ∷ []) $ done !
 
       -- where there are fewer than sixteen slots, nothing was touched
-      abbrev untouched : AllUntouched 𝓤 H A W 11 (κ, κs) (own.signature .params) (own.ended .kept) a at
-      untouched = (
-        table-untouched 𝓤 H A W 11 (κ, κs) R 0 tt jobs _,
-        (
-          table-untouched 𝓤 H A W 11 (κ, κs) u32 1 tt (rest .0) _,
-          (
-            table-untouched 𝓤 H A W 11 (κ, κs) u32 2 tt (rest .1 .0) _,
-            (
-              table-untouched 𝓤 H A W 11 (κ, κs) u32 3 tt (rest .1 .1 .0) _,
-              (
-                table-untouched 𝓤 H A W 11 (κ, κs) u32 4 tt (rest .1 .1 .1 .0) _,
-                (
-                  table-untouched 𝓤 H A W 11 (κ, κs) u32 5 tt (rest .1 .1 .1 .1 .0) _,
-                  (
-                    table-untouched 𝓤 H A W 11 (κ, κs) u32 6 tt (rest .1 .1 .1 .1 .1 .0) _,
-                    (
-                      table-untouched 𝓤 H A W 11 (κ, κs) u32 7 tt (rest .1 .1 .1 .1 .1 .1 .0) _,
-                      (
-                        table-untouched 𝓤 H A W 11 (κ, κs) u32 8 tt (rest .1 .1 .1 .1 .1 .1 .1 .0) _,
-                        (
-                          table-untouched 𝓤 H A W 11 (κ, κs) u32 9 tt (rest .1 .1 .1 .1 .1 .1 .1 .1 .0) _,
-                          (
-                            table-untouched 𝓤 H A W 11 (κ, κs) u32 10 tt (rest .1 .1 .1 .1 .1 .1 .1 .1 .1 .0) _,
-                            tt,
-                          ),
-                        ),
-                      ),
-                    ),
-                  ),
-                ),
-              ),
-            ),
-          ),
-        ),
-      )
+      abbrev untouched : AllUntouched 𝓤 H A Types a at
+      untouched = (table-untouched 𝓤 H A W (named 0) κ R jobs (slice-vals jobs), columns-untouched 𝓤 H A W [] (λ b us. tt) 1 10 κs rest (at .1))
 
+      -- so the last values are those that were passed
       abbrev same : Lasts own.ended (κ, κs) a
-      same = lasts-of 𝓤 H A W 11 (κ, κs) (own.signature .params) (own.ended .kept) a at untouched
+      same = lasts-of 𝓤 H A (κ, κs) (own.signature .params) a at untouched
 
+      -- and refusal 1 is given back
       refused : Holds (ltb (length ys) jobCount) → ent 𝓤 (⋆ 𝓤 H A ((T₀ ⊛ Toks) ∷ ‵ (owns Types a at) ∷ [])) (Post short-val)
       refused few =
           qed W ((T₀ ⊛ Toks) ∷ ‵ (owns Types a at) ∷ []) ∵
           suffices ! _ (ends-at 𝓤 H A own.ended stayed Own W (((κ, κs), (q, qs), tt, a, at), tt) short-val Short same
           (all-fit (κ, κs) (own.signature .params) (own.ended .kept) a same)) $ says ! (empty-few (ten-lent rest) ys (ltb→lt _ _ few)) $
-          frame ! $ use1 W (‵ (lasts own.ended (κ, κs) a same)) (all-untouched 𝓤 H A W 11 (κ, κs) (own.signature .params) (own.ended .kept) a at untouched) $
+          frame ! $ use1 W (‵ (lasts own.ended (κ, κs) a same)) (all-untouched 𝓤 H A (κ, κs) (own.signature .params) a at untouched) $
           owned ! An.the-row (Is An.the-row) (enum.makes An.the-type An′.the-plain 𝓤 H A) Short _ short-is $ move ! (1 ∷ 0 ∷ []) $ done !
 
       -- ---- what the two are passed, and that it is there: `clear` the columns
@@ -233,11 +205,21 @@ module _ {M : Type 1} (𝓤 : URA M) (H : Heap 𝓤) (A : Atoms 𝓤) (mem : Mem
 
       -- `close_slots` the table, which has sixteen slots
       abbrev to-close : jobCount ≤ length ys → ToTable 𝓤 H A (asMut R) [] tt unit (close.clauses 𝓤 H A mem run) κ jobs
-      to-close enough = record { values = tt; machine = tt; makes = tt; are = tt; ghost = tt; required = factI 𝓤 (jobCount ≤ length ys) (emp 𝓤) enough }
+      to-close enough = record {
+        values = tt;
+        machine = tt;
+        makes = tt;
+        are = tt;
+        ghost = tt;
+        required = factI 𝓤 (jobCount ≤ length ys)
+            (emp 𝓤) enough;
+      }
 
-      module _ (C : Calls 𝓤 H) (Λ : Loops 𝓤 H) (fm : FmC 𝓤 H (W .laws) C) (known-core : Triple 𝓤 (C #core) Core) (known-close : Triple 𝓤 (C #close) Close)
+      module _ (C : Calls 𝓤 H) (Λ : Loops 𝓤 H) (fm : FmC 𝓤 H (W .laws) C) (known-core : Triple 𝓤 (C #core) Core)
+          (known-close : Triple 𝓤 (C #close) Close)
           (rooms : Are Types (Ises Types) a at) where
-        -- ---- the walk. The locals, the last of them first, stand behind what is owned: local i at 2 · (37 − i) from there, and behind it what frees it
+        -- ---- the walk. The locals, the last of them first, stand behind what is owned: local i at 2 · (37 − i) from
+        -- there, and behind it what frees it
         module _ (bs : Blocks body.locals) where
           -- the locals
           abbrev En : Env 𝓤 H
@@ -251,10 +233,13 @@ module _ {M : Type 1} (𝓤 : URA M) (H : Heap 𝓤) (A : Atoms 𝓤) (mem : Mem
           closes : (ws : Leavings) → jobCount ≤ length ys → Clearing true ws
               → Sq W (T₀ ∷ Table ∷ Others ws ∷ Toks ∷ locals 𝓤 H En (Holding room []) []) (runs C Λ En body.t-27 (atRet En Post))
           closes ws enough did =
-              assigns ! (addr ! (from ! (fld ! refl (hop ! (look-in ! 76 (sub ! 0 refl (whole !))) (stop !))))) (from ! (stop !)) (init ! 6 refl (tt, tt)) $
-              assigns ! (agg ! (and-then ! (cell ! 6 refl) (and-then ! (load ! (from ! (fld ! refl (stop !))) (look-in ! 76 (sub ! 1 refl (whole !)))) (no-more !)))) (from ! (stop !))
+              assigns ! (addr ! (from ! (fld ! refl (hop ! (look-in ! 76 (sub ! 0 refl (whole !))) (stop !))))) (from ! (stop !))
+              (init ! 6 refl (tt, tt)) $
+              assigns ! (agg ! (and-then ! (cell ! 6 refl)
+              (and-then ! (load ! (from ! (fld ! refl (stop !))) (look-in ! 76 (sub ! 1 refl (whole !)))) (no-more !)))) (from ! (stop !))
               (init ! 4 refl (tt, (tt, (record { fits = rooms .0 .0 .1 .0 }, tt)))) $
-              asks-table ! fm (asMut R) [] tt unit (close.clauses 𝓤 H A mem run) known-close κ q jobs (slice-vals jobs) (to-close enough) (λ _ zs. zs .0 ≡ closed) (λ _ _. id⊢ 𝓤 _)
+              asks-table ! fm (asMut R) [] tt unit (close.clauses 𝓤 H A mem run) known-close κ q jobs (slice-vals jobs) (to-close enough)
+              (λ _ zs. zs .0 ≡ closed) (λ _ _. id⊢ 𝓤 _)
               (λ _. and-then ! (cell ! 3 refl) (no-more !)) (λ w _ zs put nothing-is.
               land ! (from ! (stop !)) (init ! 8 refl (unit-typed w nothing-is)) $ forget ! 8 refl $ forget ! 6 refl $ forget ! 4 refl $
               assigns ! (agg ! (and-then ! (lit ! tt) (and-then ! (lit ! tt) (no-more !)))) (from ! (stop !)) (init ! 78 refl (done-typed 𝓤 H A W)) $
@@ -268,73 +253,116 @@ module _ {M : Type 1} (𝓤 : URA M) (H : Heap 𝓤) (A : Atoms 𝓤) (mem : Mem
           unclear ws did =
               assigns ! (agg ! (and-then ! (lit ! tt) (no-more !))) (from ! (stop !)) (init ! 78 refl (short-typed 𝓤 H A W)) $
               returns-within ! Post refl (look ! 78 refl) $ move ! (places 4 76) $ freed ! En (Holding (has short-val) []) $
-              move ! (1 ∷ []) $ use1 W (Slots ys) (table-said 𝓤 H A W 11 (κ, κs) R 0 tt jobs (slice-vals jobs)) $ move ! (1 ∷ 0 ∷ []) $
+              move ! (1 ∷ []) $ use1 W (Slots ys) (table-said 𝓤 H A W (named 0) κ R jobs (slice-vals jobs)) $ move ! (1 ∷ 0 ∷ []) $
               by ! (exits Short short-val ys ws short-is (empty-unclear (ten-lent rest) ys (ten-left ws) did))
 
           -- the columns are cleared, or one is short
-          calls : jobCount ≤ length ys → Sq W (T₀ ∷ Table ∷ ‵ Lent ∷ Toks ∷ locals 𝓤 H En (Holding room (room ∷ room ∷ on (take 10 columns))) []) (runs C Λ En body.t-24 (atRet En Post))
+          calls : jobCount ≤ length ys → Sq W (T₀ ∷ Table ∷ ‵ Lent ∷ Toks ∷ locals 𝓤 H En (Holding room (room ∷ room ∷ on (take 10 columns))) [])
+              (runs C Λ En body.t-24 (atRet En Post))
           calls enough =
               move ! (3 ∷ 2 ∷ []) $ join ! $
               asks ! fm core.ended (core.clauses 𝓤 H A mem run) known-core to-core (Toks ⊛ ‵ Lent) goes-core Clearing (λ _ _. id⊢ 𝓤 _)
-              (and-then ! (cell ! 47 refl) (and-then ! (cell ! 43 refl) (and-then ! (cell ! 39 refl) (and-then ! (cell ! 35 refl) (and-then ! (cell ! 31 refl) (and-then ! (cell ! 27 refl) (and-then ! (cell ! 23 refl) (and-then ! (cell ! 19 refl) (and-then ! (cell ! 15 refl) (and-then ! (cell ! 11 refl) (no-more !))))))))))) (λ v b ws did is-bool.
+              (and-then ! (cell ! 47 refl) (and-then ! (cell ! 43 refl)
+              (and-then ! (cell ! 39 refl) (and-then ! (cell ! 35 refl)
+              (and-then ! (cell ! 31 refl) (and-then ! (cell ! 27 refl)
+              (and-then ! (cell ! 23 refl) (and-then ! (cell ! 19 refl)
+              (and-then ! (cell ! 15 refl) (and-then ! (cell ! 11 refl) (no-more !))))))))))) (λ v b ws did is-bool.
               -- [the tokens; what the machine left; the slots' token; the table; the locals]
               move ! (2 ∷ 3 ∷ 1 ∷ 0 ∷ []) $ land ! (from ! (stop !)) (init ! 52 refl (bool-typed b v is-bool)) $
-              rewrite ! 52 (λ (x : Val). ‵ (fat fullShare tyBool (bs .1 .1 .1 .1 .1 .1 .1 .1 .1 .1 .1 .1 .1 .0) 0 x)) (ap only is-bool) refl $ forget ! 48 refl $ forget ! 44 refl $ forget ! 40 refl $ forget ! 36 refl $ forget ! 32 refl $ forget ! 28 refl $ forget ! 24 refl $ forget ! 20 refl $ forget ! 16 refl $ forget ! 12 refl $
+              rewrite ! 52 (λ (x : Val). ‵ (fat fullShare tyBool (bs .1 .1 .1 .1 .1 .1 .1 .1 .1 .1 .1 .1 .1 .0) 0 x)) (ap only is-bool) refl $
+              forget ! 48 refl $ forget ! 44 refl $ forget ! 40 refl $ forget ! 36 refl $ forget ! 32 refl $ forget ! 28 refl $ forget ! 24 refl $
+              forget ! 20 refl $ forget ! 16 refl $ forget ! 12 refl $
               assigns ! (un ! (cell ! 52 refl) tt) (from ! (stop !)) (init ! 10 refl (tt, tt)) $ first ! $ branches ! (cell ! 10 refl)
               (λ short. forget ! 52 refl $ forget ! 10 refl $ unclear ws (subst (λ (x : Bool). Clearing x ws) (fails b short) did))
-              (λ clear. skips ! $ exec ! C Λ En body.t-27 (atRet En Post) $ forget ! 52 refl $ forget ! 10 refl $ closes ws enough (subst (λ (x : Bool). Clearing x ws) (not-fails b clear) did)))
+              (λ clear. skips ! $ exec ! C Λ En body.t-27 (atRet En Post) $ forget ! 52 refl $ forget ! 10 refl $
+              closes ws enough (subst (λ (x : Bool). Clearing x ws) (not-fails b clear) did)))
 
           -- columns 8 to 10 are lent on
-          lends8 : jobCount ≤ length ys → Sq W (T₀ ∷ Table ∷ ‵ Lent ∷ Toks ∷ locals 𝓤 H En (Holding room (room ∷ room ∷ on (take 7 columns))) []) (runs C Λ En body.t-18 (atRet En Post))
+          lends8 : jobCount ≤ length ys → Sq W (T₀ ∷ Table ∷ ‵ Lent ∷ Toks ∷ locals 𝓤 H En (Holding room (room ∷ room ∷ on (take 7 columns))) [])
+              (runs C Λ En body.t-18 (atRet En Post))
           lends8 enough =
-              assigns ! (addr ! (from ! (fld ! refl (hop ! (look-in ! 60 (sub ! 0 refl (whole !))) (stop !))))) (from ! (stop !)) (init ! 22 refl (tt, tt)) $
-              assigns ! (agg ! (and-then ! (cell ! 22 refl) (and-then ! (load ! (from ! (fld ! refl (stop !))) (look-in ! 60 (sub ! 1 refl (whole !)))) (no-more !)))) (from ! (stop !)) (init ! 20 refl (tt, (tt, (record { fits = rooms .1 .1 .1 .1 .1 .1 .1 .1 .0 .0 .1 .0 }, tt)))) $
+              assigns ! (addr ! (from ! (fld ! refl (hop ! (look-in ! 60 (sub ! 0 refl (whole !))) (stop !))))) (from ! (stop !))
+              (init ! 22 refl (tt, tt)) $
+              assigns ! (agg ! (and-then ! (cell ! 22 refl)
+              (and-then ! (load ! (from ! (fld ! refl (stop !))) (look-in ! 60 (sub ! 1 refl (whole !)))) (no-more !)))) (from ! (stop !))
+              (init ! 20 refl (tt, (tt, (record { fits = rooms .1 .1 .1 .1 .1 .1 .1 .1 .0 .0 .1 .0 }, tt)))) $
               forget ! 22 refl $
-              assigns ! (addr ! (from ! (fld ! refl (hop ! (look-in ! 58 (sub ! 0 refl (whole !))) (stop !))))) (from ! (stop !)) (init ! 18 refl (tt, tt)) $
-              assigns ! (agg ! (and-then ! (cell ! 18 refl) (and-then ! (load ! (from ! (fld ! refl (stop !))) (look-in ! 58 (sub ! 1 refl (whole !)))) (no-more !)))) (from ! (stop !)) (init ! 16 refl (tt, (tt, (record { fits = rooms .1 .1 .1 .1 .1 .1 .1 .1 .1 .0 .0 .1 .0 }, tt)))) $
+              assigns ! (addr ! (from ! (fld ! refl (hop ! (look-in ! 58 (sub ! 0 refl (whole !))) (stop !))))) (from ! (stop !))
+              (init ! 18 refl (tt, tt)) $
+              assigns ! (agg ! (and-then ! (cell ! 18 refl)
+              (and-then ! (load ! (from ! (fld ! refl (stop !))) (look-in ! 58 (sub ! 1 refl (whole !)))) (no-more !)))) (from ! (stop !))
+              (init ! 16 refl (tt, (tt, (record { fits = rooms .1 .1 .1 .1 .1 .1 .1 .1 .1 .0 .0 .1 .0 }, tt)))) $
               forget ! 18 refl $
-              assigns ! (addr ! (from ! (fld ! refl (hop ! (look-in ! 56 (sub ! 0 refl (whole !))) (stop !))))) (from ! (stop !)) (init ! 14 refl (tt, tt)) $
-              assigns ! (agg ! (and-then ! (cell ! 14 refl) (and-then ! (load ! (from ! (fld ! refl (stop !))) (look-in ! 56 (sub ! 1 refl (whole !)))) (no-more !)))) (from ! (stop !)) (init ! 12 refl (tt, (tt, (record { fits = rooms .1 .1 .1 .1 .1 .1 .1 .1 .1 .1 .0 .0 .1 .0 }, tt)))) $
+              assigns ! (addr ! (from ! (fld ! refl (hop ! (look-in ! 56 (sub ! 0 refl (whole !))) (stop !))))) (from ! (stop !))
+              (init ! 14 refl (tt, tt)) $
+              assigns ! (agg ! (and-then ! (cell ! 14 refl)
+              (and-then ! (load ! (from ! (fld ! refl (stop !))) (look-in ! 56 (sub ! 1 refl (whole !)))) (no-more !)))) (from ! (stop !))
+              (init ! 12 refl (tt, (tt, (record { fits = rooms .1 .1 .1 .1 .1 .1 .1 .1 .1 .1 .0 .0 .1 .0 }, tt)))) $
               forget ! 14 refl $
               calls enough
 
           -- columns 5 to 7 are lent on
-          lends5 : jobCount ≤ length ys → Sq W (T₀ ∷ Table ∷ ‵ Lent ∷ Toks ∷ locals 𝓤 H En (Holding room (room ∷ room ∷ on (take 4 columns))) []) (runs C Λ En body.t-12 (atRet En Post))
+          lends5 : jobCount ≤ length ys → Sq W (T₀ ∷ Table ∷ ‵ Lent ∷ Toks ∷ locals 𝓤 H En (Holding room (room ∷ room ∷ on (take 4 columns))) [])
+              (runs C Λ En body.t-12 (atRet En Post))
           lends5 enough =
-              assigns ! (addr ! (from ! (fld ! refl (hop ! (look-in ! 66 (sub ! 0 refl (whole !))) (stop !))))) (from ! (stop !)) (init ! 34 refl (tt, tt)) $
-              assigns ! (agg ! (and-then ! (cell ! 34 refl) (and-then ! (load ! (from ! (fld ! refl (stop !))) (look-in ! 66 (sub ! 1 refl (whole !)))) (no-more !)))) (from ! (stop !)) (init ! 32 refl (tt, (tt, (record { fits = rooms .1 .1 .1 .1 .1 .0 .0 .1 .0 }, tt)))) $
+              assigns ! (addr ! (from ! (fld ! refl (hop ! (look-in ! 66 (sub ! 0 refl (whole !))) (stop !))))) (from ! (stop !))
+              (init ! 34 refl (tt, tt)) $
+              assigns ! (agg ! (and-then ! (cell ! 34 refl)
+              (and-then ! (load ! (from ! (fld ! refl (stop !))) (look-in ! 66 (sub ! 1 refl (whole !)))) (no-more !)))) (from ! (stop !))
+              (init ! 32 refl (tt, (tt, (record { fits = rooms .1 .1 .1 .1 .1 .0 .0 .1 .0 }, tt)))) $
               forget ! 34 refl $
-              assigns ! (addr ! (from ! (fld ! refl (hop ! (look-in ! 64 (sub ! 0 refl (whole !))) (stop !))))) (from ! (stop !)) (init ! 30 refl (tt, tt)) $
-              assigns ! (agg ! (and-then ! (cell ! 30 refl) (and-then ! (load ! (from ! (fld ! refl (stop !))) (look-in ! 64 (sub ! 1 refl (whole !)))) (no-more !)))) (from ! (stop !)) (init ! 28 refl (tt, (tt, (record { fits = rooms .1 .1 .1 .1 .1 .1 .0 .0 .1 .0 }, tt)))) $
+              assigns ! (addr ! (from ! (fld ! refl (hop ! (look-in ! 64 (sub ! 0 refl (whole !))) (stop !))))) (from ! (stop !))
+              (init ! 30 refl (tt, tt)) $
+              assigns ! (agg ! (and-then ! (cell ! 30 refl)
+              (and-then ! (load ! (from ! (fld ! refl (stop !))) (look-in ! 64 (sub ! 1 refl (whole !)))) (no-more !)))) (from ! (stop !))
+              (init ! 28 refl (tt, (tt, (record { fits = rooms .1 .1 .1 .1 .1 .1 .0 .0 .1 .0 }, tt)))) $
               forget ! 30 refl $
-              assigns ! (addr ! (from ! (fld ! refl (hop ! (look-in ! 62 (sub ! 0 refl (whole !))) (stop !))))) (from ! (stop !)) (init ! 26 refl (tt, tt)) $
-              assigns ! (agg ! (and-then ! (cell ! 26 refl) (and-then ! (load ! (from ! (fld ! refl (stop !))) (look-in ! 62 (sub ! 1 refl (whole !)))) (no-more !)))) (from ! (stop !)) (init ! 24 refl (tt, (tt, (record { fits = rooms .1 .1 .1 .1 .1 .1 .1 .0 .0 .1 .0 }, tt)))) $
+              assigns ! (addr ! (from ! (fld ! refl (hop ! (look-in ! 62 (sub ! 0 refl (whole !))) (stop !))))) (from ! (stop !))
+              (init ! 26 refl (tt, tt)) $
+              assigns ! (agg ! (and-then ! (cell ! 26 refl)
+              (and-then ! (load ! (from ! (fld ! refl (stop !))) (look-in ! 62 (sub ! 1 refl (whole !)))) (no-more !)))) (from ! (stop !))
+              (init ! 24 refl (tt, (tt, (record { fits = rooms .1 .1 .1 .1 .1 .1 .1 .0 .0 .1 .0 }, tt)))) $
               forget ! 26 refl $
               lends8 enough
 
           -- columns 1 to 4 are lent on
-          lends1 : jobCount ≤ length ys → Sq W (T₀ ∷ Table ∷ ‵ Lent ∷ Toks ∷ locals 𝓤 H En (Holding room (room ∷ room ∷ on (take 0 columns))) []) (runs C Λ En body.t-4 (atRet En Post))
+          lends1 : jobCount ≤ length ys → Sq W (T₀ ∷ Table ∷ ‵ Lent ∷ Toks ∷ locals 𝓤 H En (Holding room (room ∷ room ∷ on (take 0 columns))) [])
+              (runs C Λ En body.t-4 (atRet En Post))
           lends1 enough =
-              assigns ! (addr ! (from ! (fld ! refl (hop ! (look-in ! 74 (sub ! 0 refl (whole !))) (stop !))))) (from ! (stop !)) (init ! 50 refl (tt, tt)) $
-              assigns ! (agg ! (and-then ! (cell ! 50 refl) (and-then ! (load ! (from ! (fld ! refl (stop !))) (look-in ! 74 (sub ! 1 refl (whole !)))) (no-more !)))) (from ! (stop !)) (init ! 48 refl (tt, (tt, (record { fits = rooms .1 .0 .0 .1 .0 }, tt)))) $
+              assigns ! (addr ! (from ! (fld ! refl (hop ! (look-in ! 74 (sub ! 0 refl (whole !))) (stop !))))) (from ! (stop !))
+              (init ! 50 refl (tt, tt)) $
+              assigns ! (agg ! (and-then ! (cell ! 50 refl)
+              (and-then ! (load ! (from ! (fld ! refl (stop !))) (look-in ! 74 (sub ! 1 refl (whole !)))) (no-more !)))) (from ! (stop !))
+              (init ! 48 refl (tt, (tt, (record { fits = rooms .1 .0 .0 .1 .0 }, tt)))) $
               forget ! 50 refl $
-              assigns ! (addr ! (from ! (fld ! refl (hop ! (look-in ! 72 (sub ! 0 refl (whole !))) (stop !))))) (from ! (stop !)) (init ! 46 refl (tt, tt)) $
-              assigns ! (agg ! (and-then ! (cell ! 46 refl) (and-then ! (load ! (from ! (fld ! refl (stop !))) (look-in ! 72 (sub ! 1 refl (whole !)))) (no-more !)))) (from ! (stop !)) (init ! 44 refl (tt, (tt, (record { fits = rooms .1 .1 .0 .0 .1 .0 }, tt)))) $
+              assigns ! (addr ! (from ! (fld ! refl (hop ! (look-in ! 72 (sub ! 0 refl (whole !))) (stop !))))) (from ! (stop !))
+              (init ! 46 refl (tt, tt)) $
+              assigns ! (agg ! (and-then ! (cell ! 46 refl)
+              (and-then ! (load ! (from ! (fld ! refl (stop !))) (look-in ! 72 (sub ! 1 refl (whole !)))) (no-more !)))) (from ! (stop !))
+              (init ! 44 refl (tt, (tt, (record { fits = rooms .1 .1 .0 .0 .1 .0 }, tt)))) $
               forget ! 46 refl $
-              assigns ! (addr ! (from ! (fld ! refl (hop ! (look-in ! 70 (sub ! 0 refl (whole !))) (stop !))))) (from ! (stop !)) (init ! 42 refl (tt, tt)) $
-              assigns ! (agg ! (and-then ! (cell ! 42 refl) (and-then ! (load ! (from ! (fld ! refl (stop !))) (look-in ! 70 (sub ! 1 refl (whole !)))) (no-more !)))) (from ! (stop !)) (init ! 40 refl (tt, (tt, (record { fits = rooms .1 .1 .1 .0 .0 .1 .0 }, tt)))) $
+              assigns ! (addr ! (from ! (fld ! refl (hop ! (look-in ! 70 (sub ! 0 refl (whole !))) (stop !))))) (from ! (stop !))
+              (init ! 42 refl (tt, tt)) $
+              assigns ! (agg ! (and-then ! (cell ! 42 refl)
+              (and-then ! (load ! (from ! (fld ! refl (stop !))) (look-in ! 70 (sub ! 1 refl (whole !)))) (no-more !)))) (from ! (stop !))
+              (init ! 40 refl (tt, (tt, (record { fits = rooms .1 .1 .1 .0 .0 .1 .0 }, tt)))) $
               forget ! 42 refl $
-              assigns ! (addr ! (from ! (fld ! refl (hop ! (look-in ! 68 (sub ! 0 refl (whole !))) (stop !))))) (from ! (stop !)) (init ! 38 refl (tt, tt)) $
-              assigns ! (agg ! (and-then ! (cell ! 38 refl) (and-then ! (load ! (from ! (fld ! refl (stop !))) (look-in ! 68 (sub ! 1 refl (whole !)))) (no-more !)))) (from ! (stop !)) (init ! 36 refl (tt, (tt, (record { fits = rooms .1 .1 .1 .1 .0 .0 .1 .0 }, tt)))) $
+              assigns ! (addr ! (from ! (fld ! refl (hop ! (look-in ! 68 (sub ! 0 refl (whole !))) (stop !))))) (from ! (stop !))
+              (init ! 38 refl (tt, tt)) $
+              assigns ! (agg ! (and-then ! (cell ! 38 refl)
+              (and-then ! (load ! (from ! (fld ! refl (stop !))) (look-in ! 68 (sub ! 1 refl (whole !)))) (no-more !)))) (from ! (stop !))
+              (init ! 36 refl (tt, (tt, (record { fits = rooms .1 .1 .1 .1 .0 .0 .1 .0 }, tt)))) $
               forget ! 38 refl $
               lends5 enough
 
           -- the slots are counted: fewer than sixteen are refused, else the columns are lent on
           tests : Sq W (locals 𝓤 H En (Holding room []) ((T₀ ⊛ Toks) ∷ ‵ (owns Types a at) ∷ [])) (runs C Λ En body.t-1 (atRet En Post))
           tests =
-              assigns ! (of-opd ! (load ! (from ! (fld ! refl (stop !))) (look-in ! 72 (sub ! 1 refl (whole !))))) (from ! (stop !)) (init ! 50 refl (tt, record { fits = rooms .0 .0 .1 .0 })) $
+              assigns ! (of-opd ! (load ! (from ! (fld ! refl (stop !))) (look-in ! 72 (sub ! 1 refl (whole !))))) (from ! (stop !))
+              (init ! 50 refl (tt, record { fits = rooms .0 .0 .1 .0 })) $
               assigns ! (bin ! (cell ! 50 refl) (lit ! tt) tt) (from ! (stop !)) (init ! 48 refl (tt, tt)) $ first ! $ branches ! (cell ! 48 refl)
-              (λ few. forget ! 50 refl $ forget ! 48 refl $ assigns ! (agg ! (and-then ! (lit ! tt) (no-more !))) (from ! (stop !)) (init ! 74 refl (short-typed 𝓤 H A W)) $
+              (λ few. forget ! 50 refl $ forget ! 48 refl $
+              assigns ! (agg ! (and-then ! (lit ! tt) (no-more !))) (from ! (stop !)) (init ! 74 refl (short-typed 𝓤 H A W)) $
               returns-within ! Post refl (look ! 74 refl) $ freed ! En (Holding (has short-val) []) $ by ! (refused few))
               (λ many. skips ! $ exec ! C Λ En body.t-4 (atRet En Post) $ forget ! 50 refl $ forget ! 48 refl $
               move ! (76 ∷ []) $ split ! $ move ! (78 ∷ []) $ fsplit ! $ move ! (2 ∷ 0 ∷ 1 ∷ []) $ lends1 (nltb→le _ _ many))
@@ -345,19 +373,15 @@ module _ {M : Type 1} (𝓤 : URA M) (H : Heap 𝓤) (A : Atoms 𝓤) (mem : Mem
             qed W ((T₀ ⊛ Toks) ∷ ‵ (owns Types a at) ∷ []) ∵
             enters ! C Λ code.function (flat Types at) Post (all-typed 𝓤 H A Types (mut-slice-lawful 𝓤 H A W (named 0) κ R, lawful changing [] 𝓤 H A W tt 1 10 κs) a at rooms) (λ bs. tests bs)
 
-    -- ---- the walk, at whatever the function is passed
-    walks : (C : Calls 𝓤 H) (Λ : Loops 𝓤 H) → FmC 𝓤 H (W .laws) C → Triple 𝓤 (C #core) Core → Triple 𝓤 (C #close) Close
-        → Walks 𝓤 H A own.ended stayed (WpFn 𝓤 H C Λ code.function) Own
-    walks C Λ fm kc kl =
-        walked 𝓤 H A own.ended stayed Own (WpFn 𝓤 H C Λ code.function) (λ κs. (slice-vals, spelling (κs .1)))
-        (λ κs. (mut-slice-tells (named 0) (κs .0) R, told changing [] tt tt 1 10 (κs .1)))
-        (λ κs qs bounds a g are. via 𝓤 _ (fst∗ 𝓤 _ (emp 𝓤)) (walk (κs .0) (κs .1) (qs .0) (qs .1) (a .0) (a .1) C Λ fm kc kl are))
-
-    -- it ends in what the contract states
-    meets : (𝓣 : Tables 𝓤 H) → Triple 𝓤 (𝓣 .C #core) Core → Triple 𝓤 (𝓣 .C #close) Close → Meets 𝓤 H A own.signature (WpFn 𝓤 H (𝓣 .C) (𝓣 .Λ) code.function) (own.spec 𝓤 H A mem run)
+    -- ---- the walk, at whatever the function is passed, meets the contract
+    meets : (𝓣 : Tables 𝓤 H) → Triple 𝓤 (𝓣 .C #core) Core → Triple 𝓤 (𝓣 .C #close) Close
+        → Meets 𝓤 H A own.signature (WpFn 𝓤 H (𝓣 .C) (𝓣 .Λ) code.function) (own.spec 𝓤 H A mem run)
     meets 𝓣 kc kl =
-        walk-meets 𝓤 H A own.ended stayed W (all-go 𝓤 H A W 11 (own.signature .params) (own.ended .kept)) Own
-        (WpFn 𝓤 H (𝓣 .C) (𝓣 .Λ) code.function) (WpFn-mono 𝓤 H (W .laws) 𝓣 code.function) (walks (𝓣 .C) (𝓣 .Λ) (fmOf 𝓤 H (W .laws) 𝓣) kc kl)
+        walk-met 𝓤 H A W own.ended stayed Own code.function 𝓣 (λ κs. (slice-vals, spelling (κs .1)))
+        (all-go 𝓤 H A W 11 (own.signature .params) (own.ended .kept))
+        (λ κs. (mut-slice-tells (named 0) (κs .0) R, told changing [] tt tt 1 10 (κs .1)))
+        (λ κs qs bounds a g are. via 𝓤 _ (fst∗ 𝓤 _ (emp 𝓤))
+        (walk (κs .0) (κs .1) (qs .0) (qs .1) (a .0) (a .1) (𝓣 .C) (𝓣 .Λ) (fmOf 𝓤 H (W .laws) 𝓣) kc kl are))
 
 -- the function meets its contract, since the two meet theirs
 pub empty-spec : {M : Type 1} → stated.statement M
@@ -367,4 +391,5 @@ empty-spec 𝓤 H 𝓜 𝓖 𝓡 =
     (tables 𝓤 H 𝓜 𝓡 code.env .C) (tables 𝓤 H 𝓜 𝓡 code.env .Λ) #own code.function (code.unfolded 𝓤 H 𝓜 𝓡)
     (meets 𝓤 H (𝓖 .A) (𝓜 .mem) (𝓡 .run) (givenOf 𝓤 H 𝓜 𝓖) (tablesOf 𝓤 H 𝓜 (tables 𝓤 H 𝓜 𝓡 code.env))
     (cited 𝓤 H (Core 𝓤 H (𝓖 .A) (𝓜 .mem) (𝓡 .run)) 𝓜 𝓡 code.env #core core-def.routine code.calls-machine·clear (core-thm.met 𝓤 H 𝓜 𝓖 𝓡))
-    (cited 𝓤 H (Close 𝓤 H (𝓖 .A) (𝓜 .mem) (𝓡 .run)) 𝓜 𝓡 code.env #close close-def.routine code.calls-plant·slots·close-slots (close-thm.met 𝓤 H 𝓜 𝓖 𝓡)))
+    (cited 𝓤 H (Close 𝓤 H (𝓖 .A) (𝓜 .mem)
+    (𝓡 .run)) 𝓜 𝓡 code.env #close close-def.routine code.calls-plant·slots·close-slots (close-thm.met 𝓤 H 𝓜 𝓖 𝓡)))

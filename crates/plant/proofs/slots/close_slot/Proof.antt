@@ -1,4 +1,5 @@
--- `plant::slots::close_slot` meets its contract: the job that is taken out closes, so an unused slot is put back. A walk of its MIR, by hand: the table is lent on as `&` to `slot` and then as `&mut` to `put`, and comes back from both.
+-- `plant::slots::close_slot` meets its contract: the job that is taken out closes, so an unused slot is put back. A walk of its MIR, by hand: the
+-- table is lent on as `&` to `slot` and then as `&mut` to `put`, and comes back from both.
 -- Of `slot`, `close` and `put` only the contracts are known. Assumes nothing.
 use mathlib.Core.Path.{_≡_, refl, _∙_, ap}
 use Prim.Native.Nat.{ℕ, _<_, _^_}
@@ -83,8 +84,10 @@ module _ {M : Type 1} (𝓤 : URA M) (H : Heap 𝓤) (A : Atoms 𝓤) (mem : Mem
   abbrev Own : Clauses 𝓤 own.ended
   Own = own.clauses 𝓤 H A mem run
 
-  module _ (W : Given 𝓤 H A) (𝓣 : Tables 𝓤 H) (known-slot : Triple 𝓤 (𝓣 .C #slot) Taking) (known-close : Triple 𝓤 (𝓣 .C #close) Closing) (known-put : Triple 𝓤 (𝓣 .C #put) Putting) where
-    module _ (κ : Lft) (q : Share) (b o : ℕ) (γ : GName) (ys : List Job) (i : ℕ) (enough : Room R (length ys)) (fits : i < 2 ^ 64) (within : i < length ys) where
+  module _ (W : Given 𝓤 H A) (𝓣 : Tables 𝓤 H) (known-slot : Triple 𝓤 (𝓣 .C #slot) Taking) (known-close : Triple 𝓤 (𝓣 .C #close) Closing)
+      (known-put : Triple 𝓤 (𝓣 .C #put) Putting) where
+    module _ (κ : Lft) (q : Share) (b o : ℕ) (γ : GName) (ys : List Job) (i : ℕ) (enough : Room R (length ys)) (fits : i < 2 ^ 64)
+        (within : i < length ys) where
       -- the table's machine value
       abbrev s : Val
       s = sliceVal (b, o) (length ys)
@@ -109,7 +112,8 @@ module _ {M : Type 1} (𝓤 : URA M) (H : Heap 𝓤) (A : Atoms 𝓤) (mem : Mem
       to-close j v is = record { values = (j, tt); machine = (v ∷ [], tt); makes = (makes 𝓤 H A, tt); are = (is, tt); ghost = tt; required = id⊢ 𝓤 (emp 𝓤) }
 
       -- of `put`, the same
-      abbrev to-put : (j : Job) (v : Val) → Is R j (v ∷ []) → (ν : ℕ) (δ : GName) → ToTable 𝓤 H A (asMut R) PutRest (yes, (yes, tt)) unit (put.clauses 𝓤 H A mem run) (ν ∷ []) (table R b o δ ys)
+      abbrev to-put : (j : Job) (v : Val) → Is R j (v ∷ []) → (ν : ℕ) (δ : GName)
+          → ToTable 𝓤 H A (asMut R) PutRest (yes, (yes, tt)) unit (put.clauses 𝓤 H A mem run) (ν ∷ []) (table R b o δ ys)
       to-put j v is ν δ = record {
         values = (i, (j, tt));
         machine = (vint w64 i ∷ [], (v ∷ [], tt));
@@ -120,33 +124,49 @@ module _ {M : Type 1} (𝓤 : URA M) (H : Heap 𝓤) (A : Atoms 𝓤) (mem : Mem
       }
 
       -- from the entry on
-      walk : ent 𝓤 (sep 𝓤 (A .lft κ q) (sem 𝓤 H A (MutSlice (named 0) κ R .own (table R b o γ ys) (s ∷ [])))) (WpFn 𝓤 H (𝓣 .C) (𝓣 .Λ) code.function (s ∷ vint w64 i ∷ []) Post)
+      walk : ent 𝓤 (sep 𝓤 (A .lft κ q) (sem 𝓤 H A (MutSlice (named 0) κ R .own (table R b o γ ys) (s ∷ []))))
+          (WpFn 𝓤 H (𝓣 .C) (𝓣 .Λ) code.function (s ∷ vint w64 i ∷ []) Post)
       walk =
           qed W (‵ (flft κ q) ∷ ‵ (MutSlice (named 0) κ R .own (table R b o γ ys) (s ∷ [])) ∷ []) ∵
           enters ! (𝓣 .C) (𝓣 .Λ) code.function (s ∷ vint w64 i ∷ []) Post ((tt, (tt, (record { fits = enough .0 }, tt))), ((tt, record { fits = fits }), tt)) (λ bs. move ! (20 ∷ 21 ∷ []) $
           -- [the token; the table; the locals, the last first: local k stands at 2 · (10 − k)]
-          assigns ! (addr ! (from ! (fld ! refl (hop ! (look-in ! 18 (sub ! 0 refl (whole !))) (stop !))))) (from ! (stop !)) (init ! 12 refl (tt, tt)) $
-          assigns ! (agg ! (and-then ! (cell ! 12 refl) (and-then ! (load ! (from ! (fld ! refl (stop !))) (look-in ! 18 (sub ! 1 refl (whole !)))) (no-more !)))) (from ! (stop !)) (init ! 10 refl (tt, (tt, (record { fits = enough .0 }, tt)))) $
-          asks-shr R κ q b o γ ys (s ∷ []) ! (fmOf 𝓤 H (W .laws) 𝓣) (named 0) Rest (yes, tt) R (slot.clauses 𝓤 H A mem run) known-slot to-slot (λ j. j ≡ jobAt ys i) (λ _ _ _ _. id⊢ 𝓤 _)
-          (λ _ _ _ _. and-then ! (cell ! 10 refl) (and-then ! (cell ! 16 refl) (no-more !))) (λ v j _ is. land ! (from ! (stop !)) (init ! 14 refl (typed-at 𝓤 H A W j v is)) $
-          assigns ! (addr ! (from ! (fld ! refl (hop ! (look-in ! 18 (sub ! 0 refl (whole !))) (stop !))))) (from ! (stop !)) (init ! 6 refl (tt, tt)) $
-          assigns ! (agg ! (and-then ! (cell ! 6 refl) (and-then ! (load ! (from ! (fld ! refl (stop !))) (look-in ! 18 (sub ! 1 refl (whole !)))) (no-more !)))) (from ! (stop !)) (init ! 4 refl (tt, (tt, (record { fits = enough .0 }, tt)))) $
-          asks-values ! (fmOf 𝓤 H (W .laws) 𝓣) (plain (λ _. R) ∷ []) (yes, tt) R (close.clauses 𝓤 H A mem run) known-close (to-close j v is) (λ c. c ≡ noJob) (λ _ _. id⊢ 𝓤 _)
+          assigns ! (addr ! (from ! (fld ! refl (hop ! (look-in ! 18 (sub ! 0 refl (whole !))) (stop !))))) (from ! (stop !))
+          (init ! 12 refl (tt, tt)) $
+          assigns ! (agg ! (and-then ! (cell ! 12 refl)
+          (and-then ! (load ! (from ! (fld ! refl (stop !))) (look-in ! 18 (sub ! 1 refl (whole !)))) (no-more !)))) (from ! (stop !))
+          (init ! 10 refl (tt, (tt, (record { fits = enough .0 }, tt)))) $
+          asks-shr R κ q b o γ ys (s ∷ []) ! (fmOf 𝓤 H (W .laws) 𝓣)
+          (named 0) Rest (yes, tt) R (slot.clauses 𝓤 H A mem run) known-slot to-slot (λ j. j ≡ jobAt ys i) (λ _ _ _ _. id⊢ 𝓤 _)
+          (λ _ _ _ _. and-then ! (cell ! 10 refl) (and-then ! (cell ! 16 refl) (no-more !)))
+          (λ v j _ is. land ! (from ! (stop !)) (init ! 14 refl (typed-at 𝓤 H A W j v is)) $
+          assigns ! (addr ! (from ! (fld ! refl (hop ! (look-in ! 18 (sub ! 0 refl (whole !))) (stop !))))) (from ! (stop !))
+          (init ! 6 refl (tt, tt)) $
+          assigns ! (agg ! (and-then ! (cell ! 6 refl)
+          (and-then ! (load ! (from ! (fld ! refl (stop !))) (look-in ! 18 (sub ! 1 refl (whole !)))) (no-more !)))) (from ! (stop !))
+          (init ! 4 refl (tt, (tt, (record { fits = enough .0 }, tt)))) $
+          asks-values ! (fmOf 𝓤 H (W .laws) 𝓣) (plain (λ _. R) ∷ []) (yes, tt) R (close.clauses 𝓤 H A mem run) known-close (to-close j v is)
+          (λ c. c ≡ noJob) (λ _ _. id⊢ 𝓤 _)
           (and-then ! (cell ! 14 refl) (no-more !)) (λ u c closed is′. land ! (from ! (stop !)) (init ! 2 refl (typed-at 𝓤 H A W c u is′)) $
-          asks-mut R κ q b o γ ys (s ∷ []) ! (fmOf 𝓤 H (W .laws) 𝓣) (named 0) PutRest (yes, (yes, tt)) unit (put.clauses 𝓤 H A mem run) known-put (to-put c u is′) (λ _ l. l ≡ set ys i c) (λ _ _ _ _. id⊢ 𝓤 _)
-          (λ _ _ _ _. and-then ! (cell ! 4 refl) (and-then ! (cell ! 16 refl) (and-then ! (cell ! 2 refl) (no-more !)))) (λ n _ l same-length list-is nothing-is.
+          asks-mut R κ q b o γ ys (s ∷ []) ! (fmOf 𝓤 H (W .laws) 𝓣)
+          (named 0) PutRest (yes, (yes, tt)) unit (put.clauses 𝓤 H A mem run) known-put (to-put c u is′) (λ _ l. l ≡ set ys i c) (λ _ _ _ _. id⊢ 𝓤 _)
+          (λ _ _ _ _. and-then ! (cell ! 4 refl) (and-then ! (cell ! 16 refl) (and-then ! (cell ! 2 refl) (no-more !))))
+          (λ n _ l same-length list-is nothing-is.
           land ! (from ! (stop !)) (init ! 8 refl (nothing-lawful 𝓤 H A W .typed tt (n ∷ []) nothing-is .0)) $
           assigns ! (of-opd ! (unit-lit !)) (from ! (stop !)) (init ! 20 refl (tt, tt)) $ returns ! (look ! 20 refl) $
-          forget ! 2 refl $ forget ! 4 refl $ forget ! 6 refl $ forget ! 8 refl $ forget ! 10 refl $ forget ! 12 refl $ forget ! 14 refl $ move ! (places 2 20) $
+          forget ! 2 refl $ forget ! 4 refl $ forget ! 6 refl $ forget ! 8 refl $ forget ! 10 refl $ forget ! 12 refl $ forget ! 14 refl $
+          move ! (places 2 20) $
           freed ! (env body.locals bs) (has vunit ∷ has s ∷ has (vint w64 i) ∷ []) $
-          by ! (mut-left 𝓤 H A W R Rest (yes, tt) Own κ q b o γ ys l (s ∷ []) (i, tt) (vint w64 i ∷ [], tt) tt (tt, tt) same-length (factI 𝓤 (l ≡ set ys i noJob) (emp 𝓤) (list-is ∙ ap (set ys i) closed)))))))
+          by ! (mut-left 𝓤 H A W R Rest (yes, tt) Own κ q b o γ ys l (s ∷ []) (i, tt)
+          (vint w64 i ∷ [], tt) tt (tt, tt) same-length (factI 𝓤 (l ≡ set ys i noJob) (emp 𝓤) (list-is ∙ ap (set ys i) closed)))))))
 
     -- which is what the contract asks
     meets : Meets 𝓤 H A own.signature (WpFn 𝓤 H (𝓣 .C) (𝓣 .Λ) code.function) (own.spec 𝓤 H A mem run)
     meets =
-        table-meets 𝓤 H A (asMut R) Rest (yes, tt) unit Own (listed R) W code.function 𝓣 (λ κs. (slice-vals, (uint-vals w64, tt))) (λ κs. (mut-slice-tells (named 0) (κs .0) R, (uint-tells w64, tt)))
+        table-meets 𝓤 H A (asMut R) Rest (yes, tt) unit Own (listed R) W code.function 𝓣 (λ κs. (slice-vals, (uint-vals w64, tt)))
+        (λ κs. (mut-slice-tells (named 0) (κs .0) R, (uint-tells w64, tt)))
         (goes-slice 𝓤 H A W 1 0 tt (plain (λ _. R))) (dropped-go 𝓤 H A W Rest (yes, tt) (λ κs x f. refl, tt))
-        (λ κ q x a g are. needs 𝓤 (a .0 < length (now x)) _ (walk κ q (x .ptr .0) (x .ptr .1) (x .name) (x .now) (a .0) (are .0 .0 .1) (are .1 .0 .1)))
+        (λ κ q x a g are. needs 𝓤 (a .0 < length (now x)) _ (walk κ q (x .ptr .0) (x .ptr .1) (x .name) (x .now) (a .0) (are .0 .0 .1)
+        (are .1 .0 .1)))
 
 pub close-slot-spec : {M : Type 1} → stated.statement M
 unfolding code.routine tablesOf

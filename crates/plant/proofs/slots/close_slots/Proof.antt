@@ -1,4 +1,5 @@
--- `plant::slots::close_slots` meets its contract: each turn closes the job in one slot, so after sixteen turns the first sixteen are unused, and the others stay.
+-- `plant::slots::close_slots` meets its contract: each turn closes the job in one slot, so after sixteen turns the first sixteen are unused, and the
+-- others stay.
 -- A walk of its MIR, by hand; of `close_slot` only the contract is known. Assumes nothing.
 use mathlib.Core.Path.{_≡_, refl, _∙_, ap, sym}
 use Prim.Native.Nat.{ℕ, suc, _<_, _≤_, _+_}
@@ -20,7 +21,8 @@ use contract.Monad.{Fun, factI}
 use contract.Running.{givenOf, tables, tablesOf}
 use types.Kit.{Given, Item, ‵, Sq, _$_, _∵_, !, qed, by, move, rewrite}
 use types.Part.{agg, whole, sub, look-in}
-use types.Run.{look, init, store, forget, stop, hop, fld, from, load, lit, unit-lit, addr, of-opd, bin, and-then, no-more, assigns, assigns-last, stays, land, returns}
+use types.Run.{look, init, store, forget, stop, hop, fld, from, load, lit, unit-lit, addr, of-opd, bin, and-then, no-more, assigns, assigns-last}
+use types.Run.{stays, land, returns}
 use sound.WpLaws.{fmOf}
 use borrow.Author.Tests.{lt-ltb}
 use denote.Plain.{uint-makes, nothing-lawful}
@@ -100,7 +102,8 @@ module _ {M : Type 1} (𝓤 : URA M) (H : Heap 𝓤) (A : Atoms 𝓤) (mem : Mem
       after-next i small = ap (set (after i) i) (sym (getD-replicate jobCount i noJob noSlot small)) ∙ moved-next noSlot unused ys i small
 
       -- what the call of `close_slot` brings in turn i
-      abbrev to-close : (i : ℕ) → i < jobCount → (ν : ℕ) (δ : GName) → ToTable 𝓤 H A (asMut R) CloseRest (yes, tt) unit (close.clauses 𝓤 H A mem run) (ν ∷ []) (table R b o δ (after i))
+      abbrev to-close : (i : ℕ) → i < jobCount → (ν : ℕ) (δ : GName)
+          → ToTable 𝓤 H A (asMut R) CloseRest (yes, tt) unit (close.clauses 𝓤 H A mem run) (ν ∷ []) (table R b o δ (after i))
       to-close i small ν δ = record {
         values = (i, tt);
         machine = (vint w64 i ∷ [], tt);
@@ -120,15 +123,24 @@ module _ {M : Type 1} (𝓤 : URA M) (H : Heap 𝓤) (A : Atoms 𝓤) (mem : Mem
         At i = ‵ (flft κ q) ∷ Lent (after i) ∷ locals 𝓤 H En (room ∷ has s ∷ has (vint w64 i) ∷ []) []
 
         -- a turn
-        more : (i : ℕ) (X : SProp 𝓤) → i < jobCount → Sq W (At (suc i)) (Turned 𝓣 En body.t-3 Post X) → Sq W (At i) (Turning 𝓣 En body.t-3 Post body.turn-1 X)
+        more : (i : ℕ) (X : SProp 𝓤) → i < jobCount → Sq W (At (suc i)) (Turned 𝓣 En body.t-3 Post X)
+            → Sq W (At i) (Turning 𝓣 En body.t-3 Post body.turn-1 X)
         more i X small k =
             -- [the token; the table; the locals, the last first: local k stands at 2 · (7 − k)]
-            assigns ! (gives ! (ap vbool (lt-ltb i jobCount small)) (bin ! (cell ! 10 refl) (lit ! tt) tt)) (from ! (stop !)) (init ! 8 refl (tt, tt)) $ stays ! (cell ! 8 refl) $
-            assigns ! (addr ! (from ! (fld ! refl (hop ! (look-in ! 12 (sub ! 0 refl (whole !))) (stop !))))) (from ! (stop !)) (init ! 4 refl (tt, tt)) $
-            assigns ! (agg ! (and-then ! (cell ! 4 refl) (and-then ! (load ! (from ! (fld ! refl (stop !))) (look-in ! 12 (sub ! 1 refl (whole !)))) (no-more !)))) (from ! (stop !)) (init ! 2 refl (tt, (tt, (record { fits = enough .0 }, tt)))) $
-            asks-mut R κ q b o γ (after i) (s ∷ []) ! (fmOf 𝓤 H (W .laws) 𝓣) (named 0) CloseRest (yes, tt) unit (close.clauses 𝓤 H A mem run) known-close (to-close i small) (λ _ l. l ≡ set (after i) i noJob) (λ _ _ _ _. id⊢ 𝓤 _)
-            (λ _ _ _ _. and-then ! (cell ! 2 refl) (and-then ! (cell ! 10 refl) (no-more !))) (λ u _ l _ list-is nothing-is. land ! (from ! (stop !)) (init ! 6 refl (nothing-lawful 𝓤 H A W .typed tt (u ∷ []) nothing-is .0)) $
-            assigns-last ! (gives ! (ap (vint w64) (add-one i)) (bin ! (cell ! 10 refl) (lit ! tt) fits)) (from ! (stop !)) (store ! 10 refl (tt, omega arith)) $ rewrite ! 1 Lent (list-is ∙ after-next i small) refl $
+            assigns ! (gives ! (ap vbool (lt-ltb i jobCount small)) (bin ! (cell ! 10 refl) (lit ! tt) tt)) (from ! (stop !))
+            (init ! 8 refl (tt, tt)) $ stays ! (cell ! 8 refl) $
+            assigns ! (addr ! (from ! (fld ! refl (hop ! (look-in ! 12 (sub ! 0 refl (whole !))) (stop !))))) (from ! (stop !))
+            (init ! 4 refl (tt, tt)) $
+            assigns ! (agg ! (and-then ! (cell ! 4 refl)
+            (and-then ! (load ! (from ! (fld ! refl (stop !))) (look-in ! 12 (sub ! 1 refl (whole !)))) (no-more !)))) (from ! (stop !))
+            (init ! 2 refl (tt, (tt, (record { fits = enough .0 }, tt)))) $
+            asks-mut R κ q b o γ (after i) (s ∷ []) ! (fmOf 𝓤 H (W .laws) 𝓣)
+            (named 0) CloseRest (yes, tt) unit (close.clauses 𝓤 H A mem run) known-close (to-close i small) (λ _ l. l ≡ set (after i) i noJob)
+            (λ _ _ _ _. id⊢ 𝓤 _)
+            (λ _ _ _ _. and-then ! (cell ! 2 refl) (and-then ! (cell ! 10 refl) (no-more !)))
+            (λ u _ l _ list-is nothing-is. land ! (from ! (stop !)) (init ! 6 refl (nothing-lawful 𝓤 H A W .typed tt (u ∷ []) nothing-is .0)) $
+            assigns-last ! (gives ! (ap (vint w64) (add-one i)) (bin ! (cell ! 10 refl) (lit ! tt) fits)) (from ! (stop !))
+            (store ! 10 refl (tt, omega arith)) $ rewrite ! 1 Lent (list-is ∙ after-next i small) refl $
             forget ! 2 refl $ forget ! 4 refl $ forget ! 6 refl $ forget ! 8 refl $ k)
           where
             -- the next turn's number is a word
@@ -138,22 +150,28 @@ module _ {M : Type 1} (𝓤 : URA M) (H : Heap 𝓤) (A : Atoms 𝓤) (mem : Mem
         -- the last test
         ends : (X : SProp 𝓤) → Sq W (At jobCount) (Turning 𝓣 En body.t-3 Post body.turn-1 X)
         ends X =
-            assigns ! (bin ! (cell ! 10 refl) (lit ! tt) tt) (from ! (stop !)) (init ! 8 refl (tt, tt)) $ leaves 𝓣 En body.t-3 Post ! X (cell ! 8 refl) $
-            assigns ! (of-opd ! (unit-lit !)) (from ! (stop !)) (init ! 14 refl (tt, tt)) $ returns ! (look ! 14 refl) $ forget ! 8 refl $ move ! (places 2 14) $
+            assigns ! (bin ! (cell ! 10 refl) (lit ! tt) tt) (from ! (stop !)) (init ! 8 refl (tt, tt)) $
+            leaves 𝓣 En body.t-3 Post ! X (cell ! 8 refl) $
+            assigns ! (of-opd ! (unit-lit !)) (from ! (stop !)) (init ! 14 refl (tt, tt)) $ returns ! (look ! 14 refl) $ forget ! 8 refl $
+            move ! (places 2 14) $
             freed ! En (has vunit ∷ has s ∷ has (vint w64 jobCount) ∷ []) $
-            by ! (mut-left 𝓤 H A W R [] tt Own κ q b o γ ys (after jobCount) (s ∷ []) tt tt tt tt (same-length jobCount) (factI 𝓤 (after jobCount ≡ sets ys 0 unused) (emp 𝓤) refl))
+            by ! (mut-left 𝓤 H A W R [] tt Own κ q b o γ ys (after jobCount) (s ∷ []) tt tt tt tt (same-length jobCount)
+            (factI 𝓤 (after jobCount ≡ sets ys 0 unused) (emp 𝓤) refl))
 
       -- from the entry on
-      walk : ent 𝓤 (sep 𝓤 (A .lft κ q) (sem 𝓤 H A (MutSlice (named 0) κ R .own (table R b o γ ys) (s ∷ [])))) (WpFn 𝓤 H (𝓣 .C) (𝓣 .Λ) code.function (s ∷ []) Post)
+      walk : ent 𝓤 (sep 𝓤 (A .lft κ q) (sem 𝓤 H A (MutSlice (named 0) κ R .own (table R b o γ ys) (s ∷ []))))
+          (WpFn 𝓤 H (𝓣 .C) (𝓣 .Λ) code.function (s ∷ []) Post)
       walk =
-          qed W (‵ (flft κ q) ∷ Lent ys ∷ []) ∵ enters ! (𝓣 .C) (𝓣 .Λ) code.function (s ∷ []) Post ((tt, (tt, (record { fits = enough .0 }, tt))), tt) (λ bs.
+          qed W (‵ (flft κ q) ∷ Lent ys ∷ []) ∵
+          enters ! (𝓣 .C) (𝓣 .Λ) code.function (s ∷ []) Post ((tt, (tt, (record { fits = enough .0 }, tt))), tt) (λ bs.
           assigns ! (of-opd ! (lit ! tt)) (from ! (stop !)) (init ! 8 refl (tt, omega arith)) $ move ! (14 ∷ 15 ∷ []) $
           turns 𝓣 (En bs) body.t-3 Post ! body.turn-1 jobCount (At bs) (more bs) (ends bs))
 
     -- which is what the contract asks
     meets : Meets 𝓤 H A own.signature (WpFn 𝓤 H (𝓣 .C) (𝓣 .Λ) code.function) (own.spec 𝓤 H A mem run)
     meets =
-        table-meets 𝓤 H A (asMut R) [] tt unit Own (listed R) W code.function 𝓣 (λ κs. (slice-vals, tt)) (λ κs. (mut-slice-tells (named 0) (κs .0) R, tt))
+        table-meets 𝓤 H A (asMut R) [] tt unit Own (listed R) W code.function 𝓣 (λ κs. (slice-vals, tt))
+        (λ κs. (mut-slice-tells (named 0) (κs .0) R, tt))
         (goes-slice 𝓤 H A W 1 0 tt (plain (λ _. R))) tt
         (λ κ q x a g are. needs 𝓤 (jobCount ≤ length (now x)) _ (walk κ q (x .ptr .0) (x .ptr .1) (x .name) (x .now) (are .0 .0 .1)))
 
@@ -163,4 +181,5 @@ close-slots-spec 𝓤 H 𝓜 𝓖 𝓡 =
     entered 𝓤 H (tripleOf 𝓤 H (𝓖 .A) own.signature (own.spec 𝓤 H (𝓖 .A) (𝓜 .mem) (𝓡 .run)))
     (tables 𝓤 H 𝓜 𝓡 code.env .C) (tables 𝓤 H 𝓜 𝓡 code.env .Λ) #own code.function (code.unfolded 𝓤 H 𝓜 𝓡)
     (meets 𝓤 H (𝓖 .A) (𝓜 .mem) (𝓡 .run) (givenOf 𝓤 H 𝓜 𝓖) (tablesOf 𝓤 H 𝓜 (tables 𝓤 H 𝓜 𝓡 code.env))
-    (cited 𝓤 H (Closing 𝓤 H (𝓖 .A) (𝓜 .mem) (𝓡 .run)) 𝓜 𝓡 code.env #close close-def.routine code.calls-plant·slots·close-slot (close-thm.met 𝓤 H 𝓜 𝓖 𝓡)))
+    (cited 𝓤 H (Closing 𝓤 H (𝓖 .A) (𝓜 .mem)
+    (𝓡 .run)) 𝓜 𝓡 code.env #close close-def.routine code.calls-plant·slots·close-slot (close-thm.met 𝓤 H 𝓜 𝓖 𝓡)))

@@ -1,4 +1,5 @@
--- `plant::slots::put_back` meets its contract: each turn puts one of the sixteen in its slot, so after sixteen turns those are the first slots, and the others stay.
+-- `plant::slots::put_back` meets its contract: each turn puts one of the sixteen in its slot, so after sixteen turns those are the first slots, and
+-- the others stay.
 -- A walk of its MIR, by hand; of `nth` and `put` only the contracts are known. Assumes nothing.
 use mathlib.Core.Path.{_≡_, refl, _∙_, ap}
 use Prim.Native.Nat.{ℕ, suc, _<_, _≤_, _+_}
@@ -20,7 +21,8 @@ use contract.Monad.{Fun, factI}
 use contract.Running.{givenOf, tables, tablesOf}
 use types.Kit.{Given, Item, ‵, Sq, _$_, _∵_, !, qed, by, move, rewrite}
 use types.Part.{agg, whole, sub, look-in}
-use types.Run.{look, init, store, forget, stop, hop, fld, from, load, lit, unit-lit, addr, of-opd, bin, and-then, no-more, assigns, assigns-last, stays, land, returns}
+use types.Run.{look, init, store, forget, stop, hop, fld, from, load, lit, unit-lit, addr, of-opd, bin, and-then, no-more, assigns, assigns-last}
+use types.Run.{stays, land, returns}
 use sound.WpLaws.{fmOf}
 use borrow.Author.Tests.{lt-ltb}
 use denote.Laws.{Is}
@@ -86,7 +88,8 @@ module _ {M : Type 1} (𝓤 : URA M) (H : Heap 𝓤) (A : Atoms 𝓤) (mem : Mem
   Own = own.clauses 𝓤 H A mem run
 
   module _ (W : Given 𝓤 H A) (𝓣 : Tables 𝓤 H) (known-nth : Triple 𝓤 (𝓣 .C #nth) Nth) (known-put : Triple 𝓤 (𝓣 .C #put) Putting) where
-    module _ (κ : Lft) (q : Share) (b o : ℕ) (γ : GName) (ys js : List Job) (enough : Room R (length ys)) (all-is : Is Sixteen js (all-vals js)) (long : jobCount ≤ length ys) where
+    module _ (κ : Lft) (q : Share) (b o : ℕ) (γ : GName) (ys js : List Job) (enough : Room R (length ys)) (all-is : Is Sixteen js (all-vals js))
+        (long : jobCount ≤ length ys) where
       -- the table's machine value
       abbrev s : Val
       s = sliceVal (b, o) (length ys)
@@ -113,7 +116,8 @@ module _ {M : Type 1} (𝓤 : URA M) (H : Heap 𝓤) (A : Atoms 𝓤) (mem : Mem
 
       -- after sixteen turns it is the one that is asked for
       at-end : after jobCount ≡ js ++ drop jobCount ys
-      at-end = moved-all js ys jobCount (omega (arith, sixteen)) long ∙ ap (λ (l : List Job). l ++ drop jobCount ys) (take-all jobCount js (omega (arith, sixteen)))
+      at-end = moved-all js ys jobCount (omega (arith, sixteen)) long ∙ ap (λ (l : List Job). l ++ drop jobCount ys)
+          (take-all jobCount js (omega (arith, sixteen)))
 
       -- what the call of `nth` brings in turn i
       abbrev to-nth : (i : ℕ) → i < jobCount → ToValues 𝓤 H A NthParams (yes, (yes, tt)) R (nth.clauses 𝓤 H A mem run)
@@ -127,7 +131,8 @@ module _ {M : Type 1} (𝓤 : URA M) (H : Heap 𝓤) (A : Atoms 𝓤) (mem : Mem
       }
 
       -- of `put`, the job j with the machine value v
-      abbrev to-put : (i : ℕ) (j : Job) (v : Val) → i < jobCount → Is R j (v ∷ []) → (ν : ℕ) (δ : GName) → ToTable 𝓤 H A (asMut R) PutRest (yes, (yes, tt)) unit (put.clauses 𝓤 H A mem run) (ν ∷ []) (table R b o δ (after i))
+      abbrev to-put : (i : ℕ) (j : Job) (v : Val) → i < jobCount → Is R j (v ∷ []) → (ν : ℕ) (δ : GName)
+          → ToTable 𝓤 H A (asMut R) PutRest (yes, (yes, tt)) unit (put.clauses 𝓤 H A mem run) (ν ∷ []) (table R b o δ (after i))
       to-put i j v small is ν δ = record {
         values = (i, (j, tt));
         machine = (vint w64 i ∷ [], (v ∷ [], tt));
@@ -147,17 +152,28 @@ module _ {M : Type 1} (𝓤 : URA M) (H : Heap 𝓤) (A : Atoms 𝓤) (mem : Mem
         At i = ‵ (flft κ q) ∷ Lent (after i) ∷ locals 𝓤 H En (room ∷ has s ∷ has (all-val js) ∷ has (vint w64 i) ∷ []) []
 
         -- a turn
-        more : (i : ℕ) (X : SProp 𝓤) → i < jobCount → Sq W (At (suc i)) (Turned 𝓣 En body.t-3 Post X) → Sq W (At i) (Turning 𝓣 En body.t-3 Post body.turn-1 X)
+        more : (i : ℕ) (X : SProp 𝓤) → i < jobCount → Sq W (At (suc i)) (Turned 𝓣 En body.t-3 Post X)
+            → Sq W (At i) (Turning 𝓣 En body.t-3 Post body.turn-1 X)
         more i X small k =
             -- [the token; the table; the locals, the last first: local k stands at 2 · (9 − k)]
-            assigns ! (gives ! (ap vbool (lt-ltb i jobCount small)) (bin ! (cell ! 12 refl) (lit ! tt) tt)) (from ! (stop !)) (init ! 10 refl (tt, tt)) $ stays ! (cell ! 10 refl) $
-            assigns ! (addr ! (from ! (fld ! refl (hop ! (look-in ! 16 (sub ! 0 refl (whole !))) (stop !))))) (from ! (stop !)) (init ! 6 refl (tt, tt)) $
-            assigns ! (agg ! (and-then ! (cell ! 6 refl) (and-then ! (load ! (from ! (fld ! refl (stop !))) (look-in ! 16 (sub ! 1 refl (whole !)))) (no-more !)))) (from ! (stop !)) (init ! 4 refl (tt, (tt, (record { fits = enough .0 }, tt)))) $
-            asks-values ! (fmOf 𝓤 H (W .laws) 𝓣) NthParams (yes, (yes, tt)) R (nth.clauses 𝓤 H A mem run) known-nth (to-nth i small) (λ j. j ≡ jobAt js i) (λ _ _. id⊢ 𝓤 _)
-            (and-then ! (cell ! 14 refl) (and-then ! (cell ! 12 refl) (no-more !))) (λ v j job-is is. land ! (from ! (stop !)) (init ! 2 refl (typed-at 𝓤 H A W j v is)) $
-            asks-mut R κ q b o γ (after i) (s ∷ []) ! (fmOf 𝓤 H (W .laws) 𝓣) (named 0) PutRest (yes, (yes, tt)) unit (put.clauses 𝓤 H A mem run) known-put (to-put i j v small is) (λ _ l. l ≡ set (after i) i j) (λ _ _ _ _. id⊢ 𝓤 _)
-            (λ _ _ _ _. and-then ! (cell ! 4 refl) (and-then ! (cell ! 12 refl) (and-then ! (cell ! 2 refl) (no-more !)))) (λ u _ l _ list-is nothing-is. land ! (from ! (stop !)) (init ! 8 refl (nothing-lawful 𝓤 H A W .typed tt (u ∷ []) nothing-is .0)) $
-            assigns-last ! (gives ! (ap (vint w64) (add-one i)) (bin ! (cell ! 12 refl) (lit ! tt) fits)) (from ! (stop !)) (store ! 12 refl (tt, omega arith)) $
+            assigns ! (gives ! (ap vbool (lt-ltb i jobCount small)) (bin ! (cell ! 12 refl) (lit ! tt) tt)) (from ! (stop !))
+            (init ! 10 refl (tt, tt)) $ stays ! (cell ! 10 refl) $
+            assigns ! (addr ! (from ! (fld ! refl (hop ! (look-in ! 16 (sub ! 0 refl (whole !))) (stop !))))) (from ! (stop !))
+            (init ! 6 refl (tt, tt)) $
+            assigns ! (agg ! (and-then ! (cell ! 6 refl)
+            (and-then ! (load ! (from ! (fld ! refl (stop !))) (look-in ! 16 (sub ! 1 refl (whole !)))) (no-more !)))) (from ! (stop !))
+            (init ! 4 refl (tt, (tt, (record { fits = enough .0 }, tt)))) $
+            asks-values ! (fmOf 𝓤 H (W .laws) 𝓣) NthParams (yes, (yes, tt)) R (nth.clauses 𝓤 H A mem run) known-nth (to-nth i small)
+            (λ j. j ≡ jobAt js i) (λ _ _. id⊢ 𝓤 _)
+            (and-then ! (cell ! 14 refl) (and-then ! (cell ! 12 refl) (no-more !)))
+            (λ v j job-is is. land ! (from ! (stop !)) (init ! 2 refl (typed-at 𝓤 H A W j v is)) $
+            asks-mut R κ q b o γ (after i) (s ∷ []) ! (fmOf 𝓤 H (W .laws) 𝓣)
+            (named 0) PutRest (yes, (yes, tt)) unit (put.clauses 𝓤 H A mem run) known-put (to-put i j v small is) (λ _ l. l ≡ set (after i) i j)
+            (λ _ _ _ _. id⊢ 𝓤 _)
+            (λ _ _ _ _. and-then ! (cell ! 4 refl) (and-then ! (cell ! 12 refl) (and-then ! (cell ! 2 refl) (no-more !))))
+            (λ u _ l _ list-is nothing-is. land ! (from ! (stop !)) (init ! 8 refl (nothing-lawful 𝓤 H A W .typed tt (u ∷ []) nothing-is .0)) $
+            assigns-last ! (gives ! (ap (vint w64) (add-one i)) (bin ! (cell ! 12 refl) (lit ! tt) fits)) (from ! (stop !))
+            (store ! 12 refl (tt, omega arith)) $
             rewrite ! 1 Lent (list-is ∙ (ap (set (after i) i) job-is ∙ moved-next noSlot js ys i (omega (arith, sixteen)))) refl $
             forget ! 2 refl $ forget ! 4 refl $ forget ! 6 refl $ forget ! 8 refl $ forget ! 10 refl $ k))
           where
@@ -168,24 +184,31 @@ module _ {M : Type 1} (𝓤 : URA M) (H : Heap 𝓤) (A : Atoms 𝓤) (mem : Mem
         -- the last test
         ends : (X : SProp 𝓤) → Sq W (At jobCount) (Turning 𝓣 En body.t-3 Post body.turn-1 X)
         ends X =
-            assigns ! (bin ! (cell ! 12 refl) (lit ! tt) tt) (from ! (stop !)) (init ! 10 refl (tt, tt)) $ leaves 𝓣 En body.t-3 Post ! X (cell ! 10 refl) $
-            assigns ! (of-opd ! (unit-lit !)) (from ! (stop !)) (init ! 18 refl (tt, tt)) $ returns ! (look ! 18 refl) $ forget ! 10 refl $ move ! (places 2 18) $
+            assigns ! (bin ! (cell ! 12 refl) (lit ! tt) tt) (from ! (stop !)) (init ! 10 refl (tt, tt)) $
+            leaves 𝓣 En body.t-3 Post ! X (cell ! 10 refl) $
+            assigns ! (of-opd ! (unit-lit !)) (from ! (stop !)) (init ! 18 refl (tt, tt)) $ returns ! (look ! 18 refl) $ forget ! 10 refl $
+            move ! (places 2 18) $
             freed ! En (has vunit ∷ has s ∷ has (all-val js) ∷ has (vint w64 jobCount) ∷ []) $
-            by ! (mut-left 𝓤 H A W R Rest (yes, tt) Own κ q b o γ ys (after jobCount) (s ∷ []) (js, tt) (all-vals js, tt) tt (tt, tt) (same-length jobCount) (factI 𝓤 (after jobCount ≡ js ++ drop jobCount ys) (emp 𝓤) at-end))
+            by ! (mut-left 𝓤 H A W R Rest (yes, tt) Own κ q b o γ ys (after jobCount) (s ∷ []) (js, tt) (all-vals js, tt) tt (tt, tt)
+            (same-length jobCount) (factI 𝓤 (after jobCount ≡ js ++ drop jobCount ys) (emp 𝓤) at-end))
 
       -- from the entry on
-      walk : ent 𝓤 (sep 𝓤 (A .lft κ q) (sem 𝓤 H A (MutSlice (named 0) κ R .own (table R b o γ ys) (s ∷ [])))) (WpFn 𝓤 H (𝓣 .C) (𝓣 .Λ) code.function (s ∷ all-val js ∷ []) Post)
+      walk : ent 𝓤 (sep 𝓤 (A .lft κ q) (sem 𝓤 H A (MutSlice (named 0) κ R .own (table R b o γ ys) (s ∷ []))))
+          (WpFn 𝓤 H (𝓣 .C) (𝓣 .Λ) code.function (s ∷ all-val js ∷ []) Post)
       walk =
-          qed W (‵ (flft κ q) ∷ Lent ys ∷ []) ∵ enters ! (𝓣 .C) (𝓣 .Λ) code.function (s ∷ all-val js ∷ []) Post ((tt, (tt, (record { fits = enough .0 }, tt))), (all-typed-at 𝓤 H A W js (all-val js) all-is, tt)) (λ bs.
+          qed W (‵ (flft κ q) ∷ Lent ys ∷ []) ∵
+          enters ! (𝓣 .C) (𝓣 .Λ) code.function (s ∷ all-val js ∷ []) Post ((tt, (tt, (record { fits = enough .0 }, tt))), (all-typed-at 𝓤 H A W js (all-val js) all-is, tt)) (λ bs.
           assigns ! (of-opd ! (lit ! tt)) (from ! (stop !)) (init ! 10 refl (tt, omega arith)) $ move ! (18 ∷ 19 ∷ []) $
           turns 𝓣 (En bs) body.t-3 Post ! body.turn-1 jobCount (At bs) (more bs) (ends bs))
 
     -- which is what the contract asks
     meets : Meets 𝓤 H A own.signature (WpFn 𝓤 H (𝓣 .C) (𝓣 .Λ) code.function) (own.spec 𝓤 H A mem run)
     meets =
-        table-meets 𝓤 H A (asMut R) Rest (yes, tt) unit Own (listed R) W code.function 𝓣 (λ κs. (slice-vals, (all-vals, tt))) (λ κs. (mut-slice-tells (named 0) (κs .0) R, (all-tells, tt)))
+        table-meets 𝓤 H A (asMut R) Rest (yes, tt) unit Own (listed R) W code.function 𝓣 (λ κs. (slice-vals, (all-vals, tt)))
+        (λ κs. (mut-slice-tells (named 0) (κs .0) R, (all-tells, tt)))
         (goes-slice 𝓤 H A W 1 0 tt (plain (λ _. R))) (dropped-go 𝓤 H A W Rest (yes, tt) (λ κs x f. refl, tt))
-        (λ κ q x a g are. needs 𝓤 (jobCount ≤ length (now x)) _ (walk κ q (x .ptr .0) (x .ptr .1) (x .name) (x .now) (a .0) (are .0 .0 .1) (are .1 .0)))
+        (λ κ q x a g are. needs 𝓤 (jobCount ≤ length (now x)) _ (walk κ q (x .ptr .0) (x .ptr .1) (x .name) (x .now) (a .0) (are .0 .0 .1)
+        (are .1 .0)))
 
 pub put-back-spec : {M : Type 1} → stated.statement M
 unfolding code.routine tablesOf

@@ -53,7 +53,8 @@ module _ {M : Type 1} (𝓤 : URA M) (H : Heap 𝓤) (A : Atoms 𝓤) (mem : Mem
   abbrev Own : Clauses 𝓤 own.ended
   Own = own.clauses 𝓤 H A mem run
 
-  module _ (κ : Lft) (q : Share) (b o : ℕ) (γ : GName) (ys : List Job) (i : ℕ) (enough : Room R (length ys)) (fits : i < 2 ^ 64) (within : i < length ys) where
+  module _ (κ : Lft) (q : Share) (b o : ℕ) (γ : GName) (ys : List Job) (i : ℕ) (enough : Room R (length ys)) (fits : i < 2 ^ 64)
+      (within : i < length ys) where
     -- the table's machine value
     abbrev s : Val
     s = sliceVal (b, o) (length ys)
@@ -71,28 +72,36 @@ module _ {M : Type 1} (𝓤 : URA M) (H : Heap 𝓤) (A : Atoms 𝓤) (mem : Mem
     scaled = scaled-fits i (length ys) 56 within (enough .1)
 
     -- from the entry on
-    walk : ent 𝓤 (sep 𝓤 (A .lft κ q) (sem 𝓤 H A (ShrSlice (named 0) κ R .own (table R b o γ ys) (s ∷ [])))) (WpFn 𝓤 H (𝓣 .C) (𝓣 .Λ) code.function (s ∷ vint w64 i ∷ []) Post)
+    walk : ent 𝓤 (sep 𝓤 (A .lft κ q) (sem 𝓤 H A (ShrSlice (named 0) κ R .own (table R b o γ ys) (s ∷ []))))
+        (WpFn 𝓤 H (𝓣 .C) (𝓣 .Λ) code.function (s ∷ vint w64 i ∷ []) Post)
     walk =
         qed W (‵ (flft κ q) ∷ ‵ (ShrSlice (named 0) κ R .own (table R b o γ ys) (s ∷ [])) ∷ []) ∵
         enters ! (𝓣 .C) (𝓣 .Λ) code.function (s ∷ vint w64 i ∷ []) Post ((tt, (tt, (record { fits = enough .0 }, tt))), ((tt, record { fits = fits }), tt)) (λ bs.
         -- [the locals, the last first: local k stands at 2 · (5 − k); the token; the table]
         assigns ! (bin ! (cell ! 6 refl) (lit ! tt) scaled) (from ! (stop !)) (init ! 4 refl (tt, scaled)) $
-        assigns ! (gives ! (ap (vptr b) (sym (bytes o i))) (bin ! (load ! (from ! (fld ! refl (stop !))) (look-in ! 8 (sub ! 0 refl (whole !)))) (cell ! 4 refl) tt)) (from ! (stop !)) (init ! 2 refl (tt, tt)) $
+        assigns ! (gives ! (ap (vptr b) (sym (bytes o i)))
+        (bin ! (load ! (from ! (fld ! refl (stop !))) (look-in ! 8 (sub ! 0 refl (whole !)))) (cell ! 4 refl) tt)) (from ! (stop !))
+        (init ! 2 refl (tt, tt)) $
         move ! (13 ∷ []) $ fsplit ! $ drop ! $ fsplit ! $ drop ! $ move ! (0 ∷ 13 ∷ []) $
-        looks-slice ! tt R (Is R) (showing 𝓤 H A) vals tells (copies 𝓤 H A W) ys b o (λ share. elem-out ! R (Is R) (showing 𝓤 H A) vals tells share ys i noSlot b o within (λ is.
+        looks-slice ! tt R (Is R) (showing 𝓤 H A) vals tells (copies 𝓤 H A W) ys b o (λ share. elem-out ! R (Is R)
+        (showing 𝓤 H A) vals tells share ys i noSlot b o within (λ is.
         -- [the slot; what its job owns; the other slots; what shuts the table; the table; the locals]
-        assigns ! (of-opd ! (load ! (from ! (hop ! (look ! 7 refl) (stop !))) (look-raw ! 0 refl))) (from ! (stop !)) (init ! 5 refl (typed 𝓤 H A W job is)) $
+        assigns ! (of-opd ! (load ! (from ! (hop ! (look ! 7 refl) (stop !))) (look-raw ! 0 refl))) (from ! (stop !))
+        (init ! 5 refl (typed 𝓤 H A W job is)) $
         assigns ! (of-opd ! (cell ! 5 refl)) (from ! (stop !)) (init ! 15 refl (typed 𝓤 H A W job is)) $
         elem-back ! R share ys i noSlot (vals job) b o within $ shuts-slice ! tt R share ys b o $ move ! (1 ∷ []) $ drop ! $
         -- [the token; the locals]
-        returns ! (look ! 11 refl) $ move ! (places 1 12) $ freed ! (env body.locals bs) (has (val job) ∷ has s ∷ has (vint w64 i) ∷ has (vint w64 (i * 56)) ∷ has (vptr b (place 56 o i)) ∷ has (val job) ∷ []) $
+        returns ! (look ! 11 refl) $ move ! (places 1 12) $
+        freed ! (env body.locals bs) (has (val job) ∷ has s ∷ has (vint w64 i) ∷ has (vint w64 (i * 56)) ∷ has (vptr b (place 56 o i)) ∷ has (val job) ∷ []) $
         owned ! R (Is R) (makes 𝓤 H A) job (vals job) is $ move ! (1 ∷ 0 ∷ []) $
-        by ! (shr-left 𝓤 H A W R Rest (yes, tt) R Own κ q (table R b o γ ys) (s ∷ []) (i, tt) (vint w64 i ∷ [], tt) tt (tt, tt) job (val job) (factI 𝓤 (job ≡ job) (emp 𝓤) refl)))))
+        by ! (shr-left 𝓤 H A W R Rest (yes, tt) R Own κ q (table R b o γ ys) (s ∷ []) (i, tt) (vint w64 i ∷ [], tt) tt (tt, tt) job (val job)
+        (factI 𝓤 (job ≡ job) (emp 𝓤) refl)))))
 
   -- which is what the contract asks
   meets : Meets 𝓤 H A own.signature (WpFn 𝓤 H (𝓣 .C) (𝓣 .Λ) code.function) (own.spec 𝓤 H A mem run)
   meets =
-      table-meets 𝓤 H A (asShr R) Rest (yes, tt) R Own (unlisted R) W code.function 𝓣 (λ κs. (slice-vals, (uint-vals w64, tt))) (λ κs. (shr-slice-tells (named 0) (κs .0) R, (uint-tells w64, tt)))
+      table-meets 𝓤 H A (asShr R) Rest (yes, tt) R Own (unlisted R) W code.function 𝓣 (λ κs. (slice-vals, (uint-vals w64, tt)))
+      (λ κs. (shr-slice-tells (named 0) (κs .0) R, (uint-tells w64, tt)))
       (goes-dropped 𝓤 H A W 1 (asShr R) yes (λ κs x f. refl)) (dropped-go 𝓤 H A W Rest (yes, tt) (λ κs x f. refl, tt))
       (λ κ q x a g are. needs 𝓤 (a .0 < length (now x)) _ (walk κ q (x .ptr .0) (x .ptr .1) (x .name) (x .now) (a .0) (are .0 .0 .1) (are .1 .0 .1)))
 

@@ -1,4 +1,5 @@
--- `plant::slots::taken_out` meets its contract: each turn takes one slot out into the sixteen, so after sixteen turns those are the first sixteen slots, and the table stays as it is.
+-- `plant::slots::taken_out` meets its contract: each turn takes one slot out into the sixteen, so after sixteen turns those are the first sixteen
+-- slots, and the table stays as it is.
 -- A walk of its MIR, by hand; of `unused`, `slot` and `with` only the contracts are known. Assumes nothing.
 use mathlib.Core.Path.{_≡_, refl, _∙_, ap, subst}
 use Prim.Native.Nat.{ℕ, suc, _<_, _≤_, _+_}
@@ -90,7 +91,8 @@ module _ {M : Type 1} (𝓤 : URA M) (H : Heap 𝓤) (A : Atoms 𝓤) (mem : Mem
   abbrev Own : Clauses 𝓤 own.ended
   Own = own.clauses 𝓤 H A mem run
 
-  module _ (W : Given 𝓤 H A) (𝓣 : Tables 𝓤 H) (known-unused : Triple 𝓤 (𝓣 .C #unused) Unused) (known-slot : Triple 𝓤 (𝓣 .C #slot) Taking) (known-with : Triple 𝓤 (𝓣 .C #with) With) where
+  module _ (W : Given 𝓤 H A) (𝓣 : Tables 𝓤 H) (known-unused : Triple 𝓤 (𝓣 .C #unused) Unused) (known-slot : Triple 𝓤 (𝓣 .C #slot) Taking)
+      (known-with : Triple 𝓤 (𝓣 .C #with) With) where
     module _ (κ : Lft) (q : Share) (b o : ℕ) (γ : GName) (ys : List Job) (enough : Room R (length ys)) (long : jobCount ≤ length ys) where
       -- the table's machine value
       abbrev s : Val
@@ -113,8 +115,13 @@ module _ {M : Type 1} (𝓤 : URA M) (H : Heap 𝓤) (A : Atoms 𝓤) (mem : Mem
       at-end = moved-all ys (replicate jobCount noJob) jobCount long (omega arith) ∙ append-nil (take jobCount ys)
 
       -- the machine value u of those sixteen is theirs
-      told : (i : ℕ) (l : List Job) (u : Val) → l ≡ after i → Is Sixteen l (u ∷ []) → (u ≡ all-val (after i)) × Is Sixteen (after i) (all-vals (after i))
-      told i l u e is = (ap only (all-tells l (u ∷ []) is) ∙ ap all-val e, subst (λ (m : List Job). Is Sixteen m (all-vals m)) e (subst (Is Sixteen l) (all-tells l (u ∷ []) is) is))
+      told : (i : ℕ) (l : List Job) (u : Val) → l ≡ after i → Is Sixteen l (u ∷ [])
+          → (u ≡ all-val (after i)) × Is Sixteen (after i) (all-vals (after i))
+      told i l u e is = (
+        ap only (all-tells l (u ∷ []) is) ∙ ap all-val e,
+        subst (λ (m : List Job). Is Sixteen m (all-vals m)) e (subst (Is Sixteen l)
+            (all-tells l (u ∷ []) is) is),
+      )
 
       -- what the call of `unused` brings: nothing
       abbrev to-unused : ToValues 𝓤 H A [] tt Sixteen (unused.clauses 𝓤 H A mem run)
@@ -132,7 +139,8 @@ module _ {M : Type 1} (𝓤 : URA M) (H : Heap 𝓤) (A : Atoms 𝓤) (mem : Mem
       }
 
       -- of `with`, the job j with the machine value v
-      abbrev to-with : (i : ℕ) (j : Job) (v : Val) → i < jobCount → Is Sixteen (after i) (all-vals (after i)) → Is R j (v ∷ []) → ToValues 𝓤 H A WithParams (yes, (yes, (yes, tt))) Sixteen (with′.clauses 𝓤 H A mem run)
+      abbrev to-with : (i : ℕ) (j : Job) (v : Val) → i < jobCount → Is Sixteen (after i) (all-vals (after i)) → Is R j (v ∷ [])
+          → ToValues 𝓤 H A WithParams (yes, (yes, (yes, tt))) Sixteen (with′.clauses 𝓤 H A mem run)
       to-with i j v small all-is is = record {
         values = (after i, (i, (j, tt)));
         machine = (all-vals (after i), (vint w64 i ∷ [], (v ∷ [], tt)));
@@ -149,21 +157,30 @@ module _ {M : Type 1} (𝓤 : URA M) (H : Heap 𝓤) (A : Atoms 𝓤) (mem : Mem
 
         -- before turn i
         abbrev At : ℕ → List (Item 𝓤)
-        At i = ‵ (Sixteen .own (after i) (all-vals (after i))) ∷ ‵ (flft κ q) ∷ Lent ∷ locals 𝓤 H En (room ∷ has s ∷ has (all-val (after i)) ∷ has (vint w64 i) ∷ []) []
+        At i = ‵ (Sixteen .own (after i)
+            (all-vals (after i))) ∷ ‵ (flft κ q) ∷ Lent ∷ locals 𝓤 H En (room ∷ has s ∷ has (all-val (after i)) ∷ has (vint w64 i) ∷ []) []
 
         -- a turn
-        more : (i : ℕ) (X : SProp 𝓤) → i < jobCount → Sq W (At (suc i)) (Turned 𝓣 En body.t-4 Post X) → Sq W (At i) (Turning 𝓣 En body.t-4 Post body.turn-1 X)
+        more : (i : ℕ) (X : SProp 𝓤) → i < jobCount → Sq W (At (suc i)) (Turned 𝓣 En body.t-4 Post X)
+            → Sq W (At i) (Turning 𝓣 En body.t-4 Post body.turn-1 X)
         more i X small k =
             peeks ! Sixteen (Is Sixteen) (shows 𝓤 H A Sixteen) (after i) (all-vals (after i)) (λ all-is. drop ! $
             -- [the token; the table; the locals, the last first: local k stands at 2 · (6 − k)]
-            assigns ! (gives ! (ap vbool (lt-ltb i jobCount small)) (bin ! (cell ! 6 refl) (lit ! tt) tt)) (from ! (stop !)) (init ! 4 refl (tt, tt)) $ stays ! (cell ! 4 refl) $
-            asks-copy R κ q b o γ ys (s ∷ []) ! (fmOf 𝓤 H (W .laws) 𝓣) SlotRest (yes, tt) R (slot.clauses 𝓤 H A mem run) known-slot (to-slot i small) (λ j. j ≡ jobAt ys i) (λ _ _. id⊢ 𝓤 _)
-            (λ _ _. and-then ! (cell ! 10 refl) (and-then ! (cell ! 6 refl) (no-more !))) (λ v j job-is is. land ! (from ! (stop !)) (init ! 2 refl (typed-at 𝓤 H A W j v is)) $
+            assigns ! (gives ! (ap vbool (lt-ltb i jobCount small)) (bin ! (cell ! 6 refl) (lit ! tt) tt)) (from ! (stop !))
+            (init ! 4 refl (tt, tt)) $ stays ! (cell ! 4 refl) $
+            asks-copy R κ q b o γ ys (s ∷ []) ! (fmOf 𝓤 H (W .laws) 𝓣) SlotRest (yes, tt) R (slot.clauses 𝓤 H A mem run) known-slot (to-slot i small)
+            (λ j. j ≡ jobAt ys i) (λ _ _. id⊢ 𝓤 _)
+            (λ _ _. and-then ! (cell ! 10 refl) (and-then ! (cell ! 6 refl) (no-more !)))
+            (λ v j job-is is. land ! (from ! (stop !)) (init ! 2 refl (typed-at 𝓤 H A W j v is)) $
             asks-values ! (fmOf 𝓤 H (W .laws) 𝓣) WithParams (yes, (yes, (yes, tt))) Sixteen (with′.clauses 𝓤 H A mem run) known-with (to-with i j v small all-is is) (λ l. l ≡ set (after i) i j) (λ _ _. id⊢ 𝓤 _)
-            (and-then ! (cell ! 8 refl) (and-then ! (cell ! 6 refl) (and-then ! (cell ! 2 refl) (no-more !)))) (λ u l list-is is′. land ! (from ! (stop !)) (store ! 8 refl (all-typed-at 𝓤 H A W l u is′)) $
-            assigns-last ! (gives ! (ap (vint w64) (add-one i)) (bin ! (cell ! 6 refl) (lit ! tt) fits)) (from ! (stop !)) (store ! 6 refl (tt, omega arith)) $
-            rewrite ! 8 (λ (w : Val). ‵ (fat fullShare sixteen (bs .1 .1 .0) 0 w)) (told (suc i) l u (one-more j l job-is list-is) is′ .0) refl $ forget ! 2 refl $ forget ! 4 refl $
-            owned ! Sixteen (Is Sixteen) (all-makes 𝓤 H A W) (after (suc i)) (all-vals (after (suc i))) (told (suc i) l u (one-more j l job-is list-is) is′ .1) $ k)))
+            (and-then ! (cell ! 8 refl) (and-then ! (cell ! 6 refl) (and-then ! (cell ! 2 refl) (no-more !))))
+            (λ u l list-is is′. land ! (from ! (stop !)) (store ! 8 refl (all-typed-at 𝓤 H A W l u is′)) $
+            assigns-last ! (gives ! (ap (vint w64) (add-one i)) (bin ! (cell ! 6 refl) (lit ! tt) fits)) (from ! (stop !))
+            (store ! 6 refl (tt, omega arith)) $
+            rewrite ! 8 (λ (w : Val). ‵ (fat fullShare sixteen (bs .1 .1 .0) 0 w)) (told (suc i) l u (one-more j l job-is list-is) is′ .0) refl $
+            forget ! 2 refl $ forget ! 4 refl $
+            owned ! Sixteen (Is Sixteen) (all-makes 𝓤 H A W) (after (suc i)) (all-vals (after (suc i)))
+            (told (suc i) l u (one-more j l job-is list-is) is′ .1) $ k)))
           where
             -- the next turn's number is a word
             fits : Fits w64 (i + 1)
@@ -177,25 +194,36 @@ module _ {M : Type 1} (𝓤 : URA M) (H : Heap 𝓤) (A : Atoms 𝓤) (mem : Mem
         ends : (X : SProp 𝓤) → Sq W (At jobCount) (Turning 𝓣 En body.t-4 Post body.turn-1 X)
         ends X =
             -- [what the sixteen own; the token; the table; the locals]
-            assigns ! (bin ! (cell ! 7 refl) (lit ! tt) tt) (from ! (stop !)) (init ! 5 refl (tt, tt)) $ leaves 𝓣 En body.t-4 Post ! X (cell ! 5 refl) $
+            assigns ! (bin ! (cell ! 7 refl) (lit ! tt) tt) (from ! (stop !)) (init ! 5 refl (tt, tt)) $
+            leaves 𝓣 En body.t-4 Post ! X (cell ! 5 refl) $
             peeks ! Sixteen (Is Sixteen) (shows 𝓤 H A Sixteen) (after jobCount) (all-vals (after jobCount)) (λ all-is.
-            assigns ! (of-opd ! (cell ! 9 refl)) (from ! (stop !)) (init ! 13 refl (all-typed-at 𝓤 H A W (after jobCount) (all-val (after jobCount)) all-is)) $ returns ! (look ! 13 refl) $ forget ! 5 refl $ move ! (places 3 12) $
-            freed ! En (has (all-val (after jobCount)) ∷ has s ∷ has (all-val (after jobCount)) ∷ has (vint w64 jobCount) ∷ []) $ move ! (2 ∷ []) $ drop ! $ move ! (1 ∷ 0 ∷ []) $
-            by ! (shr-left 𝓤 H A W R [] tt Sixteen Own κ q (table R b o γ ys) (s ∷ []) tt tt tt tt (after jobCount) (all-val (after jobCount)) (factI 𝓤 (after jobCount ≡ take jobCount ys) (emp 𝓤) at-end)))
+            assigns ! (of-opd ! (cell ! 9 refl)) (from ! (stop !))
+            (init ! 13 refl (all-typed-at 𝓤 H A W (after jobCount) (all-val (after jobCount)) all-is)) $ returns ! (look ! 13 refl) $
+            forget ! 5 refl $ move ! (places 3 12) $
+            freed ! En (has (all-val (after jobCount)) ∷ has s ∷ has (all-val (after jobCount)) ∷ has (vint w64 jobCount) ∷ []) $ move ! (2 ∷ []) $
+            drop ! $ move ! (1 ∷ 0 ∷ []) $
+            by ! (shr-left 𝓤 H A W R [] tt Sixteen Own κ q (table R b o γ ys) (s ∷ []) tt tt tt tt (after jobCount) (all-val (after jobCount))
+            (factI 𝓤 (after jobCount ≡ take jobCount ys) (emp 𝓤) at-end)))
 
       -- from the entry on
-      walk : ent 𝓤 (sep 𝓤 (A .lft κ q) (sem 𝓤 H A (ShrSlice (named 0) κ R .own (table R b o γ ys) (s ∷ [])))) (WpFn 𝓤 H (𝓣 .C) (𝓣 .Λ) code.function (s ∷ []) Post)
+      walk : ent 𝓤 (sep 𝓤 (A .lft κ q) (sem 𝓤 H A (ShrSlice (named 0) κ R .own (table R b o γ ys) (s ∷ []))))
+          (WpFn 𝓤 H (𝓣 .C) (𝓣 .Λ) code.function (s ∷ []) Post)
       walk =
-          qed W (‵ (flft κ q) ∷ Lent ∷ []) ∵ enters ! (𝓣 .C) (𝓣 .Λ) code.function (s ∷ []) Post ((tt, (tt, (record { fits = enough .0 }, tt))), tt) (λ bs.
-          asks-values ! (fmOf 𝓤 H (W .laws) 𝓣) [] tt Sixteen (unused.clauses 𝓤 H A mem run) known-unused to-unused (λ l. l ≡ after 0) (λ _ _. id⊢ 𝓤 _) (no-more !) (λ u l list-is is.
-          land ! (from ! (stop !)) (init ! 6 refl (all-typed-at 𝓤 H A W l u is)) $ rewrite ! 6 (λ (w : Val). ‵ (fat fullShare sixteen (bs .1 .1 .0) 0 w)) (told 0 l u list-is is .0) refl $
-          assigns ! (of-opd ! (lit ! tt)) (from ! (stop !)) (init ! 4 refl (tt, omega arith)) $ move ! (12 ∷ 13 ∷ []) $ owned ! Sixteen (Is Sixteen) (all-makes 𝓤 H A W) (after 0) (all-vals (after 0)) (told 0 l u list-is is .1) $
+          qed W (‵ (flft κ q) ∷ Lent ∷ []) ∵
+          enters ! (𝓣 .C) (𝓣 .Λ) code.function (s ∷ []) Post ((tt, (tt, (record { fits = enough .0 }, tt))), tt) (λ bs.
+          asks-values ! (fmOf 𝓤 H (W .laws) 𝓣) [] tt Sixteen (unused.clauses 𝓤 H A mem run) known-unused to-unused (λ l. l ≡ after 0) (λ _ _. id⊢ 𝓤 _)
+          (no-more !) (λ u l list-is is.
+          land ! (from ! (stop !)) (init ! 6 refl (all-typed-at 𝓤 H A W l u is)) $
+          rewrite ! 6 (λ (w : Val). ‵ (fat fullShare sixteen (bs .1 .1 .0) 0 w)) (told 0 l u list-is is .0) refl $
+          assigns ! (of-opd ! (lit ! tt)) (from ! (stop !)) (init ! 4 refl (tt, omega arith)) $ move ! (12 ∷ 13 ∷ []) $
+          owned ! Sixteen (Is Sixteen) (all-makes 𝓤 H A W) (after 0) (all-vals (after 0)) (told 0 l u list-is is .1) $
           turns 𝓣 (En bs) body.t-4 Post ! body.turn-1 jobCount (At bs) (more bs) (ends bs)))
 
     -- which is what the contract asks
     meets : Meets 𝓤 H A own.signature (WpFn 𝓤 H (𝓣 .C) (𝓣 .Λ) code.function) (own.spec 𝓤 H A mem run)
     meets =
-        table-meets 𝓤 H A (asShr R) [] tt Sixteen Own (unlisted R) W code.function 𝓣 (λ κs. (slice-vals, tt)) (λ κs. (shr-slice-tells (named 0) (κs .0) R, tt))
+        table-meets 𝓤 H A (asShr R) [] tt Sixteen Own (unlisted R) W code.function 𝓣 (λ κs. (slice-vals, tt))
+        (λ κs. (shr-slice-tells (named 0) (κs .0) R, tt))
         (goes-dropped 𝓤 H A W 1 (asShr R) yes (λ κs x f. refl)) tt
         (λ κ q x a g are. needs 𝓤 (jobCount ≤ length (now x)) _ (walk κ q (x .ptr .0) (x .ptr .1) (x .name) (x .now) (are .0 .0 .1)))
 
@@ -205,6 +233,7 @@ taken-out-spec 𝓤 H 𝓜 𝓖 𝓡 =
     entered 𝓤 H (tripleOf 𝓤 H (𝓖 .A) own.signature (own.spec 𝓤 H (𝓖 .A) (𝓜 .mem) (𝓡 .run)))
     (tables 𝓤 H 𝓜 𝓡 code.env .C) (tables 𝓤 H 𝓜 𝓡 code.env .Λ) #own code.function (code.unfolded 𝓤 H 𝓜 𝓡)
     (meets 𝓤 H (𝓖 .A) (𝓜 .mem) (𝓡 .run) (givenOf 𝓤 H 𝓜 𝓖) (tablesOf 𝓤 H 𝓜 (tables 𝓤 H 𝓜 𝓡 code.env))
-    (cited 𝓤 H (Unused 𝓤 H (𝓖 .A) (𝓜 .mem) (𝓡 .run)) 𝓜 𝓡 code.env #unused unused-def.routine code.calls-plant·sixteen·unused (unused-thm.met 𝓤 H 𝓜 𝓖 𝓡))
+    (cited 𝓤 H (Unused 𝓤 H (𝓖 .A) (𝓜 .mem)
+    (𝓡 .run)) 𝓜 𝓡 code.env #unused unused-def.routine code.calls-plant·sixteen·unused (unused-thm.met 𝓤 H 𝓜 𝓖 𝓡))
     (cited 𝓤 H (Taking 𝓤 H (𝓖 .A) (𝓜 .mem) (𝓡 .run)) 𝓜 𝓡 code.env #slot slot-def.routine code.calls-plant·slots·slot (slot-thm.met 𝓤 H 𝓜 𝓖 𝓡))
     (cited 𝓤 H (With 𝓤 H (𝓖 .A) (𝓜 .mem) (𝓡 .run)) 𝓜 𝓡 code.env #with with-def.routine code.calls-plant·sixteen·with (with-thm.met 𝓤 H 𝓜 𝓖 𝓡)))

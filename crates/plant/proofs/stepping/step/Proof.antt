@@ -1,6 +1,6 @@
--- `plant::stepping::step` meets its contract: a walk of its MIR, by hand. Fewer than sixteen slots are SHORT; else the sixteen are taken out, the machine
--- steps over them, to which the columns, the output and the event are passed on for good, and the slots are put back. Of the three functions that
--- it calls only the contracts are known. Assumes nothing.
+-- `plant::stepping::step` meets its contract: a walk of its MIR, by hand. Fewer than sixteen slots are SHORT; else the sixteen are taken out, the
+-- machine steps over them, to which the columns, the output and the event are passed on for good, and the slots are put back. Of the three functions
+-- that it calls only the contracts are known. Assumes nothing.
 use Prim.Native.Nat.{ℕ, _≤_}
 use mathlib.Core.Path.{_≡_, refl, ap}
 use mathlib.Core.List.{List, [], _∷_, _++_, map}
@@ -19,11 +19,13 @@ use ghost.Atoms.{Atoms, sem}
 use contract.Lifetimes.{Lfts, Shares, toks}
 use contract.Monad.{Fun, factI, top}
 use contract.Running.{givenOf, tables, tablesOf}
-use types.Kit.{Given, Item, Sq, runs, ‵, raw, _⊛_, ⋆, atRet, _$_, _∵_, !, qed, by, move, drop, use1, split, join, rewrite, fsplit, fjoin, suffices, frame, done}
+use types.Kit.{Given, Item, Sq, runs, ‵, raw, _⊛_, ⋆, atRet, _$_, _∵_, !, qed, by, move, drop, use1, split, join, rewrite, fsplit, fjoin, suffices}
+use types.Kit.{frame, done}
 use types.Part.{agg, whole, sub, look-in}
-use types.Run.{look, init, forget, stop, hop, fld, from, load, lit, addr, of-opd, bin, and-then, no-more, assigns, first, branches, skips, exec, land, returns, returns-within}
-use sound.WpLaws.{FmC, fmOf, WpFn-mono}
-use denote.Builtin.{u32, unit, ArrayOf}
+use types.Run.{look, init, forget, stop, hop, fld, from, load, lit, addr, of-opd, bin, and-then, no-more, assigns, first, branches, skips, exec, land}
+use types.Run.{returns, returns-within}
+use sound.WpLaws.{FmC, fmOf}
+use denote.Builtin.{unit, ArrayOf}
 use denote.Enum.Laws as enum
 use denote.Exit.{yes}
 use denote.Laws.{Is, Are, Ises, Spells, valss, all-typed}
@@ -39,7 +41,7 @@ use denote.Triple.Entry.{Args, Vals, onEntry}
 use denote.Triple.Spec.{Meets, tripleOf}
 use denote.Triple.Statement.{Contract, Triple}
 use denote.Triple.Table.{entered, cited}
-use denote.Triple.Walked.{says, Stays, walkOf, Walks, ends-at, walked, walk-meets}
+use denote.Triple.Walked.{says, Stays, walkOf, ends-at}
 use Rattle.words.specs.declared.Answer.the-variants.{Short}
 use Rattle.words.specs.Numbers.{jobCount}
 use Rattle.words.proofs.Answer as An
@@ -60,15 +62,16 @@ use Rattle.machine.proofs.step.Symbol.{name as #core}
 use Rattle.machine.proofs.step.Met as core-thm
 use Rattle.plant.specs.Calls.{left}
 use Rattle.walks.proofs.Calling.{ToTable, asks, asks-table, asks-shr}
-use Rattle.plant.proofs.Columns.{changing, Cols, spelt, told, lawful, ten-left, ten-lent, on}
+use Rattle.plant.proofs.Columns.{changing, Cols, spelt, told, lawful, columns-untouched, ten-left, ten-lent, on}
 use Rattle.walks.proofs.Lending.{table}
 use Rattle.plant.proofs.Lent.{step-few, step-taken}
 use Rattle.walks.proofs.Locals.{Has, room, has, locals, freed}
 use Rattle.walks.proofs.Passing.{other-slots, all-said, all-fit, all-go, AllUntouched, lasts-of, all-untouched, table-untouched}
 use Rattle.plant.proofs.Row.{R, Sixteen, all-makes, all-typed-at}
 use Rattle.walks.proofs.TableFirst.{asMut, asShr}
-use Rattle.plant.proofs.Values.{unit-typed, short-val, short-is, short-typed, answer-of, jobs-of, stepped-val, stepped-tells, stepped-answer, stepped-jobs, answer-typed, stepped-typed}
-use Rattle.walks.proofs.Walking.{places, cell, Blocks, env, enters}
+use Rattle.plant.proofs.Values.{unit-typed, short-val, short-is, short-typed, answer-of, jobs-of, stepped-val, stepped-tells, stepped-answer}
+use Rattle.plant.proofs.Values.{stepped-jobs, answer-typed, stepped-typed}
+use Rattle.walks.proofs.Walking.{places, cell, Blocks, env, enters, walk-met}
 use Rattle.plant.proofs.slots.taken_out as taken
 use Rattle.plant.proofs.slots.taken_out.Symbol as taken-def
 use Rattle.plant.proofs.slots.taken_out.Symbol.{name as #taken}
@@ -197,74 +200,56 @@ module _ {M : Type 1} (𝓤 : URA M) (H : Heap 𝓤) (A : Atoms 𝓤) (mem : Mem
           suffices ! _ (ends-at 𝓤 H A own.ended stayed Own W (((κ, κs), (q, qs), tt, a, at), tt) (answer-of r) (r .answer) (zs, ws)
           (all-fit (κ, κs) (own.signature .params) (own.ended .kept) a (zs, ws))) $ says ! did $
           move ! (0 ∷ 3 ∷ []) $ join ! $ frame ! $ fjoin ! $
-          owned ! An.the-row (Is An.the-row) (enum.makes An.the-type An′.the-plain 𝓤 H A) (r .answer) _ (stepped-answer r v is) $ move ! (1 ∷ 0 ∷ []) $ done !
+          owned ! An.the-row (Is An.the-row) (enum.makes An.the-type An′.the-plain 𝓤 H A) (r .answer) _ (stepped-answer r v is) $
+          move ! (1 ∷ 0 ∷ []) $ done !
 
       -- where there are fewer than sixteen slots, nothing was touched
-      abbrev untouched : AllUntouched 𝓤 H A W 12 (κ, κs) (own.signature .params) (own.ended .kept) a at
+      abbrev untouched : AllUntouched 𝓤 H A Types a at
       untouched = (
-        table-untouched 𝓤 H A W 12 (κ, κs) R 0 tt jobs _,
-        (
-          table-untouched 𝓤 H A W 12 (κ, κs) u32 1 tt (rest .0) _,
-          (
-            table-untouched 𝓤 H A W 12 (κ, κs) u32 2 tt (rest .1 .0) _,
-            (
-              table-untouched 𝓤 H A W 12 (κ, κs) u32 3 tt (rest .1 .1 .0) _,
-              (
-                table-untouched 𝓤 H A W 12 (κ, κs) u32 4 tt (rest .1 .1 .1 .0) _,
-                (
-                  table-untouched 𝓤 H A W 12 (κ, κs) u32 5 tt (rest .1 .1 .1 .1 .0) _,
-                  (
-                    table-untouched 𝓤 H A W 12 (κ, κs) u32 6 tt (rest .1 .1 .1 .1 .1 .0) _,
-                    (
-                      table-untouched 𝓤 H A W 12 (κ, κs) u32 7 tt (rest .1 .1 .1 .1 .1 .1 .0) _,
-                      (
-                        table-untouched 𝓤 H A W 12 (κ, κs) u32 8 tt (rest .1 .1 .1 .1 .1 .1 .1 .0) _,
-                        (
-                          table-untouched 𝓤 H A W 12 (κ, κs) u32 9 tt (rest .1 .1 .1 .1 .1 .1 .1 .1 .0) _,
-                          (
-                            table-untouched 𝓤 H A W 12 (κ, κs) u32 10 tt (rest .1 .1 .1 .1 .1 .1 .1 .1 .1 .0) _,
-                            (
-                              table-untouched 𝓤 H A W 12 (κ, κs) u32 11 tt (rest .1 .1 .1 .1 .1 .1 .1 .1 .1 .1 .0) _,
-                              (record { last = tt; said = top 𝓤 _ }, tt),
-                            ),
-                          ),
-                        ),
-                      ),
-                    ),
-                  ),
-                ),
-              ),
-            ),
-          ),
-        ),
+        table-untouched 𝓤 H A W (named 0) κ R jobs (slice-vals jobs),
+        columns-untouched 𝓤 H A W (Ev.the-row ∷ [])
+            (λ b us. (record { last = tt; said = top 𝓤 _ }, tt)) 1 11 κs rest (at .1),
       )
 
+      -- so the last values are those that were passed
       abbrev same : Lasts own.ended (κ, κs) a
-      same = lasts-of 𝓤 H A W 12 (κ, κs) (own.signature .params) (own.ended .kept) a at untouched
+      same = lasts-of 𝓤 H A (κ, κs) (own.signature .params) a at untouched
 
+      -- and refusal 1 is given back
       refused : Holds (ltb (length ys) jobCount) → ent 𝓤 (⋆ 𝓤 H A ((T₀ ⊛ Toks) ∷ ‵ (owns Types a at) ∷ [])) (Post short-val)
       refused few =
           qed W ((T₀ ⊛ Toks) ∷ ‵ (owns Types a at) ∷ []) ∵
           suffices ! _ (ends-at 𝓤 H A own.ended stayed Own W (((κ, κs), (q, qs), tt, a, at), tt) short-val Short same
           (all-fit (κ, κs) (own.signature .params) (own.ended .kept) a same)) $ says ! (step-few (ten-lent rest) ys out-lent event (ltb→lt _ _ few)) $
-          frame ! $ use1 W (‵ (lasts own.ended (κ, κs) a same)) (all-untouched 𝓤 H A W 12 (κ, κs) (own.signature .params) (own.ended .kept) a at untouched) $
+          frame ! $ use1 W (‵ (lasts own.ended (κ, κs) a same)) (all-untouched 𝓤 H A (κ, κs) (own.signature .params) a at untouched) $
           owned ! An.the-row (Is An.the-row) (enum.makes An.the-type An′.the-plain 𝓤 H A) Short _ short-is $ move ! (1 ∷ 0 ∷ []) $ done !
 
       -- ---- what the three are passed, and that it is there: `taken_out` the table, which has sixteen slots
       to-taken : jobCount ≤ length ys → (ν : ℕ) (δ : GName)
           → ToTable 𝓤 H A (asShr R) [] tt Sixteen (taken.clauses 𝓤 H A mem run) (ν ∷ []) (table R (jobs .ptr .0) (jobs .ptr .1) δ ys)
-      to-taken enough ν δ = record { values = tt; machine = tt; makes = tt; are = tt; ghost = tt; required = factI 𝓤 (jobCount ≤ length ys) (emp 𝓤) enough }
+      to-taken enough ν δ = record {
+        values = tt;
+        machine = tt;
+        makes = tt;
+        are = tt;
+        ghost = tt;
+        required = factI 𝓤 (jobCount ≤ length ys)
+            (emp 𝓤) enough;
+      }
 
       -- the machine the sixteen, and what else is lent
       abbrev to-core : List Job → Val → Core .Ghost
       to-core all u = ((κs, qs, tt, (all, rest), (u ∷ [], at .1)), tt)
 
-      goes-core : (all : List Job) (u : Val) → Is Sixteen all (u ∷ []) → ent 𝓤 (sep 𝓤 (toks 𝓤 A 11 κs qs) (sem 𝓤 H A Lent)) (Core .pre (to-core all u))
+      goes-core : (all : List Job) (u : Val) → Is Sixteen all (u ∷ [])
+          → ent 𝓤 (sep 𝓤 (toks 𝓤 A 11 κs qs) (sem 𝓤 H A Lent)) (Core .pre (to-core all u))
       goes-core all u is =
-          qed W (Toks ∷ ‵ Lent ∷ []) ∵ owned ! Sixteen (Is Sixteen) (all-makes 𝓤 H A W) all (u ∷ []) is $ move ! (0 ∷ 2 ∷ []) $ fjoin ! $ move ! (1 ∷ 0 ∷ []) $ join ! $ frame ! $ done !
+          qed W (Toks ∷ ‵ Lent ∷ []) ∵ owned ! Sixteen (Is Sixteen) (all-makes 𝓤 H A W) all (u ∷ []) is $ move ! (0 ∷ 2 ∷ []) $ fjoin ! $
+          move ! (1 ∷ 0 ∷ []) $ join ! $ frame ! $ done !
 
       -- `put_back` the table, and the slots that the machine gave back
-      abbrev to-back : (r : Stepped) (v : Val) → Is St.the-row r (v ∷ []) → jobCount ≤ length ys → ToTable 𝓤 H A (asMut R) BackRest (yes, tt) unit (back.clauses 𝓤 H A mem run) κ jobs
+      abbrev to-back : (r : Stepped) (v : Val) → Is St.the-row r (v ∷ []) → jobCount ≤ length ys
+          → ToTable 𝓤 H A (asMut R) BackRest (yes, tt) unit (back.clauses 𝓤 H A mem run) κ jobs
       to-back r v is enough = record {
         values = (r .jobs, tt);
         machine = (jobs-of r ∷ [], tt);
@@ -274,9 +259,11 @@ module _ {M : Type 1} (𝓤 : URA M) (H : Heap 𝓤) (A : Atoms 𝓤) (mem : Mem
         required = factI 𝓤 (jobCount ≤ length ys) (emp 𝓤) enough;
       }
 
-      module _ (C : Calls 𝓤 H) (Λ : Loops 𝓤 H) (fm : FmC 𝓤 H (W .laws) C) (known-taken : Triple 𝓤 (C #taken) Taken) (known-core : Triple 𝓤 (C #core) Core)
+      module _ (C : Calls 𝓤 H) (Λ : Loops 𝓤 H) (fm : FmC 𝓤 H (W .laws) C) (known-taken : Triple 𝓤 (C #taken) Taken)
+          (known-core : Triple 𝓤 (C #core) Core)
           (known-back : Triple 𝓤 (C #back) Back) (rooms : Are Types (Ises Types) a at) where
-        -- ---- the walk. The locals, the last of them first, stand behind what is owned: local i at 2 · (44 − i) from there, and behind it what frees it
+        -- ---- the walk. The locals, the last of them first, stand behind what is owned: local i at 2 · (44 − i) from
+        -- there, and behind it what frees it
         module _ (bs : Blocks body.locals) where
           -- the locals
           abbrev En : Env 𝓤 H
@@ -291,101 +278,160 @@ module _ {M : Type 1} (𝓤 : URA M) (H : Heap 𝓤) (A : Atoms 𝓤) (mem : Mem
           Taking u hs = has u ∷ room ∷ room ∷ room ∷ room ∷ room ∷ hs
 
           -- the slots are put back, and the answer is given
-          puts : (all : List Job) (r : Stepped) (v : Val) (ws : Leavings) → jobCount ≤ length ys → all ≡ take jobCount ys → Is St.the-row r (v ∷ []) → Stepping all r ws
-              → Sq W (T₀ ∷ Table ∷ Others ws ∷ Toks ∷ locals 𝓤 H En (Holding room (room ∷ has (stepped-val r) ∷ [])) []) (runs C Λ En body.t-30 (atRet En Post))
+          puts : (all : List Job) (r : Stepped) (v : Val) (ws : Leavings) → jobCount ≤ length ys → all ≡ take jobCount ys → Is St.the-row r (v ∷ [])
+              → Stepping all r ws
+              → Sq W (T₀ ∷ Table ∷ Others ws ∷ Toks ∷ locals 𝓤 H En (Holding room (room ∷ has (stepped-val r) ∷ [])) [])
+              (runs C Λ En body.t-30 (atRet En Post))
           puts all r v ws enough out is did =
-              assigns ! (addr ! (from ! (fld ! refl (hop ! (look-in ! 90 (sub ! 0 refl (whole !))) (stop !))))) (from ! (stop !)) (init ! 6 refl (tt, tt)) $
-              assigns ! (agg ! (and-then ! (cell ! 6 refl) (and-then ! (load ! (from ! (fld ! refl (stop !))) (look-in ! 90 (sub ! 1 refl (whole !)))) (no-more !)))) (from ! (stop !))
+              assigns ! (addr ! (from ! (fld ! refl (hop ! (look-in ! 90 (sub ! 0 refl (whole !))) (stop !))))) (from ! (stop !))
+              (init ! 6 refl (tt, tt)) $
+              assigns ! (agg ! (and-then ! (cell ! 6 refl)
+              (and-then ! (load ! (from ! (fld ! refl (stop !))) (look-in ! 90 (sub ! 1 refl (whole !)))) (no-more !)))) (from ! (stop !))
               (init ! 4 refl (tt, (tt, (record { fits = rooms .0 .0 .1 .0 }, tt)))) $
-              asks-table ! fm (asMut R) BackRest (yes, tt) unit (back.clauses 𝓤 H A mem run) known-back κ q jobs (slice-vals jobs) (to-back r v is enough)
+              asks-table ! fm (asMut R) BackRest (yes, tt) unit (back.clauses 𝓤 H A mem run) known-back κ q jobs (slice-vals jobs)
+              (to-back r v is enough)
               (λ _ zs. zs .0 ≡ r .jobs ++ drops jobCount ys) (λ _ _. id⊢ 𝓤 _)
-              (λ _. and-then ! (cell ! 3 refl) (and-then ! (load ! (from ! (fld ! refl (stop !))) (look-in ! 61 (sub ! 1 refl (whole !)))) (no-more !))) (λ w _ zs put nothing-is.
+              (λ _. and-then ! (cell ! 3 refl)
+              (and-then ! (load ! (from ! (fld ! refl (stop !))) (look-in ! 61 (sub ! 1 refl (whole !)))) (no-more !))) (λ w _ zs put nothing-is.
               land ! (from ! (stop !)) (init ! 8 refl (unit-typed w nothing-is)) $ forget ! 8 refl $ forget ! 6 refl $ forget ! 4 refl $
-              assigns ! (of-opd ! (load ! (from ! (fld ! refl (stop !))) (look-in ! 62 (sub ! 0 refl (whole !))))) (from ! (stop !)) (init ! 92 refl (answer-typed 𝓤 H A W r v is)) $
+              assigns ! (of-opd ! (load ! (from ! (fld ! refl (stop !))) (look-in ! 62 (sub ! 0 refl (whole !))))) (from ! (stop !))
+              (init ! 92 refl (answer-typed 𝓤 H A W r v is)) $
               returns ! (look ! 92 refl) $ move ! (places 4 90) $ freed ! En (Holding (has (answer-of r)) (room ∷ has (stepped-val r) ∷ [])) $
-              by ! (exits r v (zs .0) ws is (step-taken (ten-lent rest) ys out-lent event all r (ten-left ws) (zs .0) (left-out ws) enough out did put)))
+              by ! (exits r v (zs .0) ws is (step-taken (ten-lent rest) ys out-lent event all r (ten-left ws) (zs .0)
+              (left-out ws) enough out did put)))
 
           -- the machine steps over the sixteen
           calls : (all : List Job) (u : Val) → jobCount ≤ length ys → all ≡ take jobCount ys → Is Sixteen all (u ∷ [])
-              → Sq W (T₀ ∷ Table ∷ ‵ Lent ∷ Toks ∷ locals 𝓤 H En (Holding room (Taking u (on (take 11 columns)))) []) (runs C Λ En body.t-29 (atRet En Post))
+              → Sq W (T₀ ∷ Table ∷ ‵ Lent ∷ Toks ∷ locals 𝓤 H En (Holding room (Taking u (on (take 11 columns)))) [])
+              (runs C Λ En body.t-29 (atRet En Post))
           calls all u enough out is =
               move ! (3 ∷ 2 ∷ []) $ join ! $
-              asks ! fm core.ended (core.clauses 𝓤 H A mem run) known-core (to-core all u) (Toks ⊛ ‵ Lent) (goes-core all u is) (λ r ws. Stepping all r (ws .1)) (λ _ _. id⊢ 𝓤 _)
-              (and-then ! (cell ! 63 refl) (and-then ! (cell ! 49 refl) (and-then ! (cell ! 45 refl) (and-then ! (cell ! 41 refl) (and-then ! (cell ! 37 refl) (and-then ! (cell ! 33 refl) (and-then ! (cell ! 29 refl) (and-then ! (cell ! 25 refl) (and-then ! (cell ! 21 refl) (and-then ! (cell ! 17 refl) (and-then ! (cell ! 13 refl) (and-then ! (cell ! 9 refl) (and-then ! (cell ! 65 refl) (no-more !)))))))))))))) (λ v r ws did is-stepped.
+              asks ! fm core.ended (core.clauses 𝓤 H A mem run) known-core (to-core all u) (Toks ⊛ ‵ Lent) (goes-core all u is)
+              (λ r ws. Stepping all r (ws .1)) (λ _ _. id⊢ 𝓤 _)
+              (and-then ! (cell ! 63 refl) (and-then ! (cell ! 49 refl)
+              (and-then ! (cell ! 45 refl) (and-then ! (cell ! 41 refl)
+              (and-then ! (cell ! 37 refl) (and-then ! (cell ! 33 refl)
+              (and-then ! (cell ! 29 refl) (and-then ! (cell ! 25 refl)
+              (and-then ! (cell ! 21 refl) (and-then ! (cell ! 17 refl)
+              (and-then ! (cell ! 13 refl) (and-then ! (cell ! 9 refl) (and-then ! (cell ! 65 refl) (no-more !)))))))))))))) (λ v r ws did is-stepped.
               -- [the tokens; what the machine left; the slots' token; the table; the locals]
               move ! (1 ∷ []) $ fsplit ! $ drop ! $ move ! (2 ∷ 3 ∷ 0 ∷ 1 ∷ []) $
               land ! (from ! (stop !)) (init ! 62 refl (stepped-typed 𝓤 H A W r v is-stepped)) $
-              rewrite ! 62 (λ (x : Val). ‵ (fat fullShare St′.mir (bs .1 .1 .1 .1 .1 .1 .1 .1 .1 .1 .1 .1 .1 .1 .1 .0) 0 x)) (ap only (stepped-tells r (v ∷ []) is-stepped)) refl $
-              forget ! 64 refl $ forget ! 50 refl $ forget ! 46 refl $ forget ! 42 refl $ forget ! 38 refl $ forget ! 34 refl $ forget ! 30 refl $ forget ! 26 refl $ forget ! 22 refl $ forget ! 18 refl $ forget ! 14 refl $ forget ! 10 refl $
+              rewrite ! 62 (λ (x : Val). ‵ (fat fullShare St′.mir (bs .1 .1 .1 .1 .1 .1 .1 .1 .1 .1 .1 .1 .1 .1 .1 .0) 0 x))
+              (ap only (stepped-tells r (v ∷ []) is-stepped)) refl $
+              forget ! 64 refl $ forget ! 50 refl $ forget ! 46 refl $ forget ! 42 refl $ forget ! 38 refl $ forget ! 34 refl $ forget ! 30 refl $
+              forget ! 26 refl $ forget ! 22 refl $ forget ! 18 refl $ forget ! 14 refl $ forget ! 10 refl $
               puts all r v (ws .1) enough out is-stepped did)
 
           -- columns 9 to 11 are lent on
           lends9 : (all : List Job) (u : Val) → jobCount ≤ length ys → all ≡ take jobCount ys → Is Sixteen all (u ∷ [])
-              → Sq W (T₀ ∷ Table ∷ ‵ Lent ∷ Toks ∷ locals 𝓤 H En (Holding room (Taking u (on (take 8 columns)))) []) (runs C Λ En body.t-23 (atRet En Post))
+              → Sq W (T₀ ∷ Table ∷ ‵ Lent ∷ Toks ∷ locals 𝓤 H En (Holding room (Taking u (on (take 8 columns)))) [])
+              (runs C Λ En body.t-23 (atRet En Post))
           lends9 all u enough out is =
-              assigns ! (addr ! (from ! (fld ! refl (hop ! (look-in ! 72 (sub ! 0 refl (whole !))) (stop !))))) (from ! (stop !)) (init ! 20 refl (tt, tt)) $
-              assigns ! (agg ! (and-then ! (cell ! 20 refl) (and-then ! (load ! (from ! (fld ! refl (stop !))) (look-in ! 72 (sub ! 1 refl (whole !)))) (no-more !)))) (from ! (stop !)) (init ! 18 refl (tt, (tt, (record { fits = rooms .1 .1 .1 .1 .1 .1 .1 .1 .1 .0 .0 .1 .0 }, tt)))) $
+              assigns ! (addr ! (from ! (fld ! refl (hop ! (look-in ! 72 (sub ! 0 refl (whole !))) (stop !))))) (from ! (stop !))
+              (init ! 20 refl (tt, tt)) $
+              assigns ! (agg ! (and-then ! (cell ! 20 refl)
+              (and-then ! (load ! (from ! (fld ! refl (stop !))) (look-in ! 72 (sub ! 1 refl (whole !)))) (no-more !)))) (from ! (stop !))
+              (init ! 18 refl (tt, (tt, (record { fits = rooms .1 .1 .1 .1 .1 .1 .1 .1 .1 .0 .0 .1 .0 }, tt)))) $
               forget ! 20 refl $
-              assigns ! (addr ! (from ! (fld ! refl (hop ! (look-in ! 70 (sub ! 0 refl (whole !))) (stop !))))) (from ! (stop !)) (init ! 16 refl (tt, tt)) $
-              assigns ! (agg ! (and-then ! (cell ! 16 refl) (and-then ! (load ! (from ! (fld ! refl (stop !))) (look-in ! 70 (sub ! 1 refl (whole !)))) (no-more !)))) (from ! (stop !)) (init ! 14 refl (tt, (tt, (record { fits = rooms .1 .1 .1 .1 .1 .1 .1 .1 .1 .1 .0 .0 .1 .0 }, tt)))) $
+              assigns ! (addr ! (from ! (fld ! refl (hop ! (look-in ! 70 (sub ! 0 refl (whole !))) (stop !))))) (from ! (stop !))
+              (init ! 16 refl (tt, tt)) $
+              assigns ! (agg ! (and-then ! (cell ! 16 refl)
+              (and-then ! (load ! (from ! (fld ! refl (stop !))) (look-in ! 70 (sub ! 1 refl (whole !)))) (no-more !)))) (from ! (stop !))
+              (init ! 14 refl (tt, (tt, (record { fits = rooms .1 .1 .1 .1 .1 .1 .1 .1 .1 .1 .0 .0 .1 .0 }, tt)))) $
               forget ! 16 refl $
-              assigns ! (addr ! (from ! (fld ! refl (hop ! (look-in ! 68 (sub ! 0 refl (whole !))) (stop !))))) (from ! (stop !)) (init ! 12 refl (tt, tt)) $
-              assigns ! (agg ! (and-then ! (cell ! 12 refl) (and-then ! (load ! (from ! (fld ! refl (stop !))) (look-in ! 68 (sub ! 1 refl (whole !)))) (no-more !)))) (from ! (stop !)) (init ! 10 refl (tt, (tt, (record { fits = rooms .1 .1 .1 .1 .1 .1 .1 .1 .1 .1 .1 .0 .0 .1 .0 }, tt)))) $
+              assigns ! (addr ! (from ! (fld ! refl (hop ! (look-in ! 68 (sub ! 0 refl (whole !))) (stop !))))) (from ! (stop !))
+              (init ! 12 refl (tt, tt)) $
+              assigns ! (agg ! (and-then ! (cell ! 12 refl)
+              (and-then ! (load ! (from ! (fld ! refl (stop !))) (look-in ! 68 (sub ! 1 refl (whole !)))) (no-more !)))) (from ! (stop !))
+              (init ! 10 refl (tt, (tt, (record { fits = rooms .1 .1 .1 .1 .1 .1 .1 .1 .1 .1 .1 .0 .0 .1 .0 }, tt)))) $
               forget ! 12 refl $
               calls all u enough out is
 
           -- columns 5 to 8 are lent on
           lends5 : (all : List Job) (u : Val) → jobCount ≤ length ys → all ≡ take jobCount ys → Is Sixteen all (u ∷ [])
-              → Sq W (T₀ ∷ Table ∷ ‵ Lent ∷ Toks ∷ locals 𝓤 H En (Holding room (Taking u (on (take 4 columns)))) []) (runs C Λ En body.t-15 (atRet En Post))
+              → Sq W (T₀ ∷ Table ∷ ‵ Lent ∷ Toks ∷ locals 𝓤 H En (Holding room (Taking u (on (take 4 columns)))) [])
+              (runs C Λ En body.t-15 (atRet En Post))
           lends5 all u enough out is =
-              assigns ! (addr ! (from ! (fld ! refl (hop ! (look-in ! 80 (sub ! 0 refl (whole !))) (stop !))))) (from ! (stop !)) (init ! 36 refl (tt, tt)) $
-              assigns ! (agg ! (and-then ! (cell ! 36 refl) (and-then ! (load ! (from ! (fld ! refl (stop !))) (look-in ! 80 (sub ! 1 refl (whole !)))) (no-more !)))) (from ! (stop !)) (init ! 34 refl (tt, (tt, (record { fits = rooms .1 .1 .1 .1 .1 .0 .0 .1 .0 }, tt)))) $
+              assigns ! (addr ! (from ! (fld ! refl (hop ! (look-in ! 80 (sub ! 0 refl (whole !))) (stop !))))) (from ! (stop !))
+              (init ! 36 refl (tt, tt)) $
+              assigns ! (agg ! (and-then ! (cell ! 36 refl)
+              (and-then ! (load ! (from ! (fld ! refl (stop !))) (look-in ! 80 (sub ! 1 refl (whole !)))) (no-more !)))) (from ! (stop !))
+              (init ! 34 refl (tt, (tt, (record { fits = rooms .1 .1 .1 .1 .1 .0 .0 .1 .0 }, tt)))) $
               forget ! 36 refl $
-              assigns ! (addr ! (from ! (fld ! refl (hop ! (look-in ! 78 (sub ! 0 refl (whole !))) (stop !))))) (from ! (stop !)) (init ! 32 refl (tt, tt)) $
-              assigns ! (agg ! (and-then ! (cell ! 32 refl) (and-then ! (load ! (from ! (fld ! refl (stop !))) (look-in ! 78 (sub ! 1 refl (whole !)))) (no-more !)))) (from ! (stop !)) (init ! 30 refl (tt, (tt, (record { fits = rooms .1 .1 .1 .1 .1 .1 .0 .0 .1 .0 }, tt)))) $
+              assigns ! (addr ! (from ! (fld ! refl (hop ! (look-in ! 78 (sub ! 0 refl (whole !))) (stop !))))) (from ! (stop !))
+              (init ! 32 refl (tt, tt)) $
+              assigns ! (agg ! (and-then ! (cell ! 32 refl)
+              (and-then ! (load ! (from ! (fld ! refl (stop !))) (look-in ! 78 (sub ! 1 refl (whole !)))) (no-more !)))) (from ! (stop !))
+              (init ! 30 refl (tt, (tt, (record { fits = rooms .1 .1 .1 .1 .1 .1 .0 .0 .1 .0 }, tt)))) $
               forget ! 32 refl $
-              assigns ! (addr ! (from ! (fld ! refl (hop ! (look-in ! 76 (sub ! 0 refl (whole !))) (stop !))))) (from ! (stop !)) (init ! 28 refl (tt, tt)) $
-              assigns ! (agg ! (and-then ! (cell ! 28 refl) (and-then ! (load ! (from ! (fld ! refl (stop !))) (look-in ! 76 (sub ! 1 refl (whole !)))) (no-more !)))) (from ! (stop !)) (init ! 26 refl (tt, (tt, (record { fits = rooms .1 .1 .1 .1 .1 .1 .1 .0 .0 .1 .0 }, tt)))) $
+              assigns ! (addr ! (from ! (fld ! refl (hop ! (look-in ! 76 (sub ! 0 refl (whole !))) (stop !))))) (from ! (stop !))
+              (init ! 28 refl (tt, tt)) $
+              assigns ! (agg ! (and-then ! (cell ! 28 refl)
+              (and-then ! (load ! (from ! (fld ! refl (stop !))) (look-in ! 76 (sub ! 1 refl (whole !)))) (no-more !)))) (from ! (stop !))
+              (init ! 26 refl (tt, (tt, (record { fits = rooms .1 .1 .1 .1 .1 .1 .1 .0 .0 .1 .0 }, tt)))) $
               forget ! 28 refl $
-              assigns ! (addr ! (from ! (fld ! refl (hop ! (look-in ! 74 (sub ! 0 refl (whole !))) (stop !))))) (from ! (stop !)) (init ! 24 refl (tt, tt)) $
-              assigns ! (agg ! (and-then ! (cell ! 24 refl) (and-then ! (load ! (from ! (fld ! refl (stop !))) (look-in ! 74 (sub ! 1 refl (whole !)))) (no-more !)))) (from ! (stop !)) (init ! 22 refl (tt, (tt, (record { fits = rooms .1 .1 .1 .1 .1 .1 .1 .1 .0 .0 .1 .0 }, tt)))) $
+              assigns ! (addr ! (from ! (fld ! refl (hop ! (look-in ! 74 (sub ! 0 refl (whole !))) (stop !))))) (from ! (stop !))
+              (init ! 24 refl (tt, tt)) $
+              assigns ! (agg ! (and-then ! (cell ! 24 refl)
+              (and-then ! (load ! (from ! (fld ! refl (stop !))) (look-in ! 74 (sub ! 1 refl (whole !)))) (no-more !)))) (from ! (stop !))
+              (init ! 22 refl (tt, (tt, (record { fits = rooms .1 .1 .1 .1 .1 .1 .1 .1 .0 .0 .1 .0 }, tt)))) $
               forget ! 24 refl $
               lends9 all u enough out is
 
           -- columns 1 to 4 are lent on
           lends1 : (all : List Job) (u : Val) → jobCount ≤ length ys → all ≡ take jobCount ys → Is Sixteen all (u ∷ [])
-              → Sq W (T₀ ∷ Table ∷ ‵ Lent ∷ Toks ∷ locals 𝓤 H En (Holding room (Taking u (on (take 0 columns)))) []) (runs C Λ En body.t-7 (atRet En Post))
+              → Sq W (T₀ ∷ Table ∷ ‵ Lent ∷ Toks ∷ locals 𝓤 H En (Holding room (Taking u (on (take 0 columns)))) [])
+              (runs C Λ En body.t-7 (atRet En Post))
           lends1 all u enough out is =
-              assigns ! (addr ! (from ! (fld ! refl (hop ! (look-in ! 88 (sub ! 0 refl (whole !))) (stop !))))) (from ! (stop !)) (init ! 52 refl (tt, tt)) $
-              assigns ! (agg ! (and-then ! (cell ! 52 refl) (and-then ! (load ! (from ! (fld ! refl (stop !))) (look-in ! 88 (sub ! 1 refl (whole !)))) (no-more !)))) (from ! (stop !)) (init ! 50 refl (tt, (tt, (record { fits = rooms .1 .0 .0 .1 .0 }, tt)))) $
+              assigns ! (addr ! (from ! (fld ! refl (hop ! (look-in ! 88 (sub ! 0 refl (whole !))) (stop !))))) (from ! (stop !))
+              (init ! 52 refl (tt, tt)) $
+              assigns ! (agg ! (and-then ! (cell ! 52 refl)
+              (and-then ! (load ! (from ! (fld ! refl (stop !))) (look-in ! 88 (sub ! 1 refl (whole !)))) (no-more !)))) (from ! (stop !))
+              (init ! 50 refl (tt, (tt, (record { fits = rooms .1 .0 .0 .1 .0 }, tt)))) $
               forget ! 52 refl $
-              assigns ! (addr ! (from ! (fld ! refl (hop ! (look-in ! 86 (sub ! 0 refl (whole !))) (stop !))))) (from ! (stop !)) (init ! 48 refl (tt, tt)) $
-              assigns ! (agg ! (and-then ! (cell ! 48 refl) (and-then ! (load ! (from ! (fld ! refl (stop !))) (look-in ! 86 (sub ! 1 refl (whole !)))) (no-more !)))) (from ! (stop !)) (init ! 46 refl (tt, (tt, (record { fits = rooms .1 .1 .0 .0 .1 .0 }, tt)))) $
+              assigns ! (addr ! (from ! (fld ! refl (hop ! (look-in ! 86 (sub ! 0 refl (whole !))) (stop !))))) (from ! (stop !))
+              (init ! 48 refl (tt, tt)) $
+              assigns ! (agg ! (and-then ! (cell ! 48 refl)
+              (and-then ! (load ! (from ! (fld ! refl (stop !))) (look-in ! 86 (sub ! 1 refl (whole !)))) (no-more !)))) (from ! (stop !))
+              (init ! 46 refl (tt, (tt, (record { fits = rooms .1 .1 .0 .0 .1 .0 }, tt)))) $
               forget ! 48 refl $
-              assigns ! (addr ! (from ! (fld ! refl (hop ! (look-in ! 84 (sub ! 0 refl (whole !))) (stop !))))) (from ! (stop !)) (init ! 44 refl (tt, tt)) $
-              assigns ! (agg ! (and-then ! (cell ! 44 refl) (and-then ! (load ! (from ! (fld ! refl (stop !))) (look-in ! 84 (sub ! 1 refl (whole !)))) (no-more !)))) (from ! (stop !)) (init ! 42 refl (tt, (tt, (record { fits = rooms .1 .1 .1 .0 .0 .1 .0 }, tt)))) $
+              assigns ! (addr ! (from ! (fld ! refl (hop ! (look-in ! 84 (sub ! 0 refl (whole !))) (stop !))))) (from ! (stop !))
+              (init ! 44 refl (tt, tt)) $
+              assigns ! (agg ! (and-then ! (cell ! 44 refl)
+              (and-then ! (load ! (from ! (fld ! refl (stop !))) (look-in ! 84 (sub ! 1 refl (whole !)))) (no-more !)))) (from ! (stop !))
+              (init ! 42 refl (tt, (tt, (record { fits = rooms .1 .1 .1 .0 .0 .1 .0 }, tt)))) $
               forget ! 44 refl $
-              assigns ! (addr ! (from ! (fld ! refl (hop ! (look-in ! 82 (sub ! 0 refl (whole !))) (stop !))))) (from ! (stop !)) (init ! 40 refl (tt, tt)) $
-              assigns ! (agg ! (and-then ! (cell ! 40 refl) (and-then ! (load ! (from ! (fld ! refl (stop !))) (look-in ! 82 (sub ! 1 refl (whole !)))) (no-more !)))) (from ! (stop !)) (init ! 38 refl (tt, (tt, (record { fits = rooms .1 .1 .1 .1 .0 .0 .1 .0 }, tt)))) $
+              assigns ! (addr ! (from ! (fld ! refl (hop ! (look-in ! 82 (sub ! 0 refl (whole !))) (stop !))))) (from ! (stop !))
+              (init ! 40 refl (tt, tt)) $
+              assigns ! (agg ! (and-then ! (cell ! 40 refl)
+              (and-then ! (load ! (from ! (fld ! refl (stop !))) (look-in ! 82 (sub ! 1 refl (whole !)))) (no-more !)))) (from ! (stop !))
+              (init ! 38 refl (tt, (tt, (record { fits = rooms .1 .1 .1 .1 .0 .0 .1 .0 }, tt)))) $
               forget ! 40 refl $
               lends5 all u enough out is
 
           -- the sixteen are taken out
           takes : jobCount ≤ length ys → Sq W (T₀ ∷ Table ∷ ‵ Lent ∷ Toks ∷ locals 𝓤 H En (Holding room []) []) (runs C Λ En body.t-4 (atRet En Post))
           takes enough =
-              assigns ! (addr ! (from ! (fld ! refl (hop ! (look-in ! 90 (sub ! 0 refl (whole !))) (stop !))))) (from ! (stop !)) (init ! 56 refl (tt, tt)) $
-              assigns ! (agg ! (and-then ! (cell ! 56 refl) (and-then ! (load ! (from ! (fld ! refl (stop !))) (look-in ! 90 (sub ! 1 refl (whole !)))) (no-more !)))) (from ! (stop !))
+              assigns ! (addr ! (from ! (fld ! refl (hop ! (look-in ! 90 (sub ! 0 refl (whole !))) (stop !))))) (from ! (stop !))
+              (init ! 56 refl (tt, tt)) $
+              assigns ! (agg ! (and-then ! (cell ! 56 refl)
+              (and-then ! (load ! (from ! (fld ! refl (stop !))) (look-in ! 90 (sub ! 1 refl (whole !)))) (no-more !)))) (from ! (stop !))
               (init ! 54 refl (tt, (tt, (record { fits = rooms .0 .0 .1 .0 }, tt)))) $
-              asks-shr R κ q (jobs .ptr .0) (jobs .ptr .1) (jobs .name) ys (slice-vals jobs) ! fm (named 0) [] tt Sixteen (taken.clauses 𝓤 H A mem run) known-taken (to-taken enough)
+              asks-shr R κ q (jobs .ptr .0) (jobs .ptr .1)
+              (jobs .name) ys (slice-vals jobs) ! fm (named 0) [] tt Sixteen (taken.clauses 𝓤 H A mem run) known-taken (to-taken enough)
               (λ all. all ≡ take jobCount ys) (λ _ _ _ _. id⊢ 𝓤 _) (λ _ _ _ _. and-then ! (cell ! 54 refl) (no-more !)) (λ u all out is.
-              land ! (from ! (stop !)) (init ! 64 refl (all-typed-at 𝓤 H A W all u is)) $ forget ! 56 refl $ forget ! 54 refl $ lends1 all u enough out is)
+              land ! (from ! (stop !)) (init ! 64 refl (all-typed-at 𝓤 H A W all u is)) $ forget ! 56 refl $ forget ! 54 refl $
+              lends1 all u enough out is)
 
           -- the slots are counted: fewer than sixteen are refused, else they are taken out
           tests : Sq W (locals 𝓤 H En (Holding room []) ((T₀ ⊛ Toks) ∷ ‵ (owns Types a at) ∷ [])) (runs C Λ En body.t-1 (atRet En Post))
           tests =
-              assigns ! (of-opd ! (load ! (from ! (fld ! refl (stop !))) (look-in ! 86 (sub ! 1 refl (whole !))))) (from ! (stop !)) (init ! 56 refl (tt, record { fits = rooms .0 .0 .1 .0 })) $
+              assigns ! (of-opd ! (load ! (from ! (fld ! refl (stop !))) (look-in ! 86 (sub ! 1 refl (whole !))))) (from ! (stop !))
+              (init ! 56 refl (tt, record { fits = rooms .0 .0 .1 .0 })) $
               assigns ! (bin ! (cell ! 56 refl) (lit ! tt) tt) (from ! (stop !)) (init ! 54 refl (tt, tt)) $ first ! $ branches ! (cell ! 54 refl)
-              (λ few. forget ! 56 refl $ forget ! 54 refl $ assigns ! (agg ! (and-then ! (lit ! tt) (no-more !))) (from ! (stop !)) (init ! 88 refl (short-typed 𝓤 H A W)) $
+              (λ few. forget ! 56 refl $ forget ! 54 refl $
+              assigns ! (agg ! (and-then ! (lit ! tt) (no-more !))) (from ! (stop !)) (init ! 88 refl (short-typed 𝓤 H A W)) $
               returns-within ! Post refl (look ! 88 refl) $ freed ! En (Holding (has short-val) []) $ by ! (refused few))
               (λ many. skips ! $ exec ! C Λ En body.t-4 (atRet En Post) $ forget ! 56 refl $ forget ! 54 refl $
               move ! (90 ∷ []) $ split ! $ move ! (92 ∷ []) $ fsplit ! $ move ! (2 ∷ 0 ∷ 1 ∷ []) $ takes (nltb→le _ _ many))
@@ -395,23 +441,23 @@ module _ {M : Type 1} (𝓤 : URA M) (H : Heap 𝓤) (A : Atoms 𝓤) (mem : Mem
         walk =
             qed W ((T₀ ⊛ Toks) ∷ ‵ (owns Types a at) ∷ []) ∵
             enters ! C Λ code.function (flat Types at) Post
-            (all-typed 𝓤 H A Types (mut-slice-lawful 𝓤 H A W (named 0) κ R, lawful changing (Ev.the-row ∷ []) 𝓤 H A W (struct.lawful Ev.the-type Ev′.the-laws 𝓤 H A W, tt) 1 11 κs) a at rooms)
+            (all-typed 𝓤 H A Types
+            (mut-slice-lawful 𝓤 H A W (named 0) κ R, lawful changing (Ev.the-row ∷ []) 𝓤 H A W (struct.lawful Ev.the-type Ev′.the-laws 𝓤 H A W, tt) 1 11 κs) a at rooms)
             (λ bs. tests bs)
 
-    -- ---- the walk, at whatever the function is passed
-    walks : (C : Calls 𝓤 H) (Λ : Loops 𝓤 H) → FmC 𝓤 H (W .laws) C → Triple 𝓤 (C #taken) Taken → Triple 𝓤 (C #core) Core → Triple 𝓤 (C #back) Back
-        → Walks 𝓤 H A own.ended stayed (WpFn 𝓤 H C Λ code.function) Own
-    walks C Λ fm kt kc kb =
-        walked 𝓤 H A own.ended stayed Own (WpFn 𝓤 H C Λ code.function) (λ κs. (slice-vals, spelling (κs .1)))
-        (λ κs. (mut-slice-tells (named 0) (κs .0) R, told changing (Ev.the-row ∷ []) (struct.vals Ev.the-type Ev′.the-laws, tt) (struct.tells Ev.the-type Ev′.the-laws, tt) 1 11 (κs .1)))
-        (λ κs qs bounds a g are. via 𝓤 _ (fst∗ 𝓤 _ (emp 𝓤)) (walk (κs .0) (κs .1) (qs .0) (qs .1) (a .0) (a .1) C Λ fm kt kc kb are))
-
-    -- it ends in what the contract states
+    -- ---- the walk, at whatever the function is passed, meets the contract
     meets : (𝓣 : Tables 𝓤 H) → Triple 𝓤 (𝓣 .C #taken) Taken → Triple 𝓤 (𝓣 .C #core) Core → Triple 𝓤 (𝓣 .C #back) Back
         → Meets 𝓤 H A own.signature (WpFn 𝓤 H (𝓣 .C) (𝓣 .Λ) code.function) (own.spec 𝓤 H A mem run)
     meets 𝓣 kt kc kb =
-        walk-meets 𝓤 H A own.ended stayed W (all-go 𝓤 H A W 12 (own.signature .params) (own.ended .kept)) Own
-        (WpFn 𝓤 H (𝓣 .C) (𝓣 .Λ) code.function) (WpFn-mono 𝓤 H (W .laws) 𝓣 code.function) (walks (𝓣 .C) (𝓣 .Λ) (fmOf 𝓤 H (W .laws) 𝓣) kt kc kb)
+        walk-met 𝓤 H A W own.ended stayed Own code.function 𝓣 (λ κs. (slice-vals, spelling (κs .1)))
+        (all-go 𝓤 H A W 12 (own.signature .params) (own.ended .kept))
+        (λ κs. (
+          mut-slice-tells (named 0) (κs .0) R,
+          told changing (Ev.the-row ∷ []) (struct.vals Ev.the-type Ev′.the-laws, tt)
+              (struct.tells Ev.the-type Ev′.the-laws, tt) 1 11 (κs .1),
+        ))
+        (λ κs qs bounds a g are. via 𝓤 _ (fst∗ 𝓤 _ (emp 𝓤))
+        (walk (κs .0) (κs .1) (qs .0) (qs .1) (a .0) (a .1) (𝓣 .C) (𝓣 .Λ) (fmOf 𝓤 H (W .laws) 𝓣) kt kc kb are))
 
 -- the function meets its contract, since the three meet theirs
 pub step-spec : {M : Type 1} → stated.statement M
