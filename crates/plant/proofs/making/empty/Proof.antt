@@ -25,7 +25,7 @@ use contract.Running.{givenOf, tables, tablesOf}
 use types.Kit.{Given, Item, Sq, runs, anyQ, ‵, raw, _⊛_, ⋆, atRet, _$_, _∵_, !, qed, by, move, use1, split, join, rewrite, fsplit, fjoin, suffices}
 use types.Kit.{frame, done}
 use types.Part.{agg, whole, sub, look-in}
-use types.Run.{look, init, forget, stop, hop, fld, from, load, lit, addr, of-opd, un, bin, and-then, no-more, assigns, first, branches, skips, exec}
+use types.Run.{look, init, forget, stop, fld, from, load, lit, of-opd, un, bin, and-then, no-more, assigns, first, branches, skips, exec}
 use types.Run.{land, returns, returns-within}
 use sound.WpLaws.{FmC, fmOf}
 use denote.Builtin.{unit}
@@ -64,7 +64,7 @@ use Rattle.walks.proofs.Passing.{all-said, all-fit, all-go, AllUntouched, lasts
 use Rattle.plant.proofs.Row.{R}
 use Rattle.walks.proofs.TableFirst.{asMut}
 use Rattle.plant.proofs.Values.{fails, not-fails, unit-typed, bool-typed, short-val, short-is, short-typed, done-val, done-is, done-typed}
-use Rattle.walks.proofs.Walking.{places, cell, Blocks, env, enters, walk-met}
+use Rattle.walks.proofs.Walking.{places, cell, Blocks, env, enters, walk-met, lends-on}
 use Rattle.plant.proofs.slots.close_slots as close
 use Rattle.plant.proofs.slots.close_slots.Symbol as close-def
 use Rattle.plant.proofs.slots.close_slots.Symbol.{name as #close}
@@ -233,15 +233,11 @@ module _ {M : Type 1} (𝓤 : URA M) (H : Heap 𝓤) (A : Atoms 𝓤) (mem : Mem
           closes : (ws : Leavings) → jobCount ≤ length ys → Clearing true ws
               → Sq W (T₀ ∷ Table ∷ Others ws ∷ Toks ∷ locals 𝓤 H En (Holding room []) []) (runs C Λ En body.t-27 (atRet En Post))
           closes ws enough did =
-              assigns ! (addr ! (from ! (fld ! refl (hop ! (look-in ! 76 (sub ! 0 refl (whole !))) (stop !))))) (from ! (stop !))
-              (init ! 6 refl (tt, tt)) $
-              assigns ! (agg ! (and-then ! (cell ! 6 refl)
-              (and-then ! (load ! (from ! (fld ! refl (stop !))) (look-in ! 76 (sub ! 1 refl (whole !)))) (no-more !)))) (from ! (stop !))
-              (init ! 4 refl (tt, (tt, (record { fits = rooms .0 .0 .1 .0 }, tt)))) $
+              lends-on ! 76 6 4 refl refl refl (tt, tt) refl refl refl (tt, (tt, (record { fits = rooms .0 .0 .1 .0 }, tt))) refl $
               asks-table ! fm (asMut R) [] tt unit (close.clauses 𝓤 H A mem run) known-close κ q jobs (slice-vals jobs) (to-close enough)
               (λ _ zs. zs .0 ≡ closed) (λ _ _. id⊢ 𝓤 _)
               (λ _. and-then ! (cell ! 3 refl) (no-more !)) (λ w _ zs put nothing-is.
-              land ! (from ! (stop !)) (init ! 8 refl (unit-typed w nothing-is)) $ forget ! 8 refl $ forget ! 6 refl $ forget ! 4 refl $
+              land ! (from ! (stop !)) (init ! 8 refl (unit-typed w nothing-is)) $ forget ! 8 refl $ forget ! 4 refl $
               assigns ! (agg ! (and-then ! (lit ! tt) (and-then ! (lit ! tt) (no-more !)))) (from ! (stop !)) (init ! 78 refl (done-typed 𝓤 H A W)) $
               returns ! (look ! 78 refl) $ move ! (places 4 76) $ freed ! En (Holding (has done-val) []) $
               by ! (exits (Done 0) done-val (zs .0) ws done-is (empty-clear (ten-lent rest) ys (ten-left ws) (zs .0) enough did put)))
@@ -281,78 +277,28 @@ module _ {M : Type 1} (𝓤 : URA M) (H : Heap 𝓤) (A : Atoms 𝓤) (mem : Mem
           lends8 : jobCount ≤ length ys → Sq W (T₀ ∷ Table ∷ ‵ Lent ∷ Toks ∷ locals 𝓤 H En (Holding room (room ∷ room ∷ on (take 7 columns))) [])
               (runs C Λ En body.t-18 (atRet En Post))
           lends8 enough =
-              assigns ! (addr ! (from ! (fld ! refl (hop ! (look-in ! 60 (sub ! 0 refl (whole !))) (stop !))))) (from ! (stop !))
-              (init ! 22 refl (tt, tt)) $
-              assigns ! (agg ! (and-then ! (cell ! 22 refl)
-              (and-then ! (load ! (from ! (fld ! refl (stop !))) (look-in ! 60 (sub ! 1 refl (whole !)))) (no-more !)))) (from ! (stop !))
-              (init ! 20 refl (tt, (tt, (record { fits = rooms .1 .1 .1 .1 .1 .1 .1 .1 .0 .0 .1 .0 }, tt)))) $
-              forget ! 22 refl $
-              assigns ! (addr ! (from ! (fld ! refl (hop ! (look-in ! 58 (sub ! 0 refl (whole !))) (stop !))))) (from ! (stop !))
-              (init ! 18 refl (tt, tt)) $
-              assigns ! (agg ! (and-then ! (cell ! 18 refl)
-              (and-then ! (load ! (from ! (fld ! refl (stop !))) (look-in ! 58 (sub ! 1 refl (whole !)))) (no-more !)))) (from ! (stop !))
-              (init ! 16 refl (tt, (tt, (record { fits = rooms .1 .1 .1 .1 .1 .1 .1 .1 .1 .0 .0 .1 .0 }, tt)))) $
-              forget ! 18 refl $
-              assigns ! (addr ! (from ! (fld ! refl (hop ! (look-in ! 56 (sub ! 0 refl (whole !))) (stop !))))) (from ! (stop !))
-              (init ! 14 refl (tt, tt)) $
-              assigns ! (agg ! (and-then ! (cell ! 14 refl)
-              (and-then ! (load ! (from ! (fld ! refl (stop !))) (look-in ! 56 (sub ! 1 refl (whole !)))) (no-more !)))) (from ! (stop !))
-              (init ! 12 refl (tt, (tt, (record { fits = rooms .1 .1 .1 .1 .1 .1 .1 .1 .1 .1 .0 .0 .1 .0 }, tt)))) $
-              forget ! 14 refl $
+              lends-on ! 60 22 20 refl refl refl (tt, tt) refl refl refl (tt, (tt, (record { fits = rooms .1 .1 .1 .1 .1 .1 .1 .1 .0 .0 .1 .0 }, tt))) refl $
+              lends-on ! 58 18 16 refl refl refl (tt, tt) refl refl refl (tt, (tt, (record { fits = rooms .1 .1 .1 .1 .1 .1 .1 .1 .1 .0 .0 .1 .0 }, tt))) refl $
+              lends-on ! 56 14 12 refl refl refl (tt, tt) refl refl refl (tt, (tt, (record { fits = rooms .1 .1 .1 .1 .1 .1 .1 .1 .1 .1 .0 .0 .1 .0 }, tt))) refl $
               calls enough
 
           -- columns 5 to 7 are lent on
           lends5 : jobCount ≤ length ys → Sq W (T₀ ∷ Table ∷ ‵ Lent ∷ Toks ∷ locals 𝓤 H En (Holding room (room ∷ room ∷ on (take 4 columns))) [])
               (runs C Λ En body.t-12 (atRet En Post))
           lends5 enough =
-              assigns ! (addr ! (from ! (fld ! refl (hop ! (look-in ! 66 (sub ! 0 refl (whole !))) (stop !))))) (from ! (stop !))
-              (init ! 34 refl (tt, tt)) $
-              assigns ! (agg ! (and-then ! (cell ! 34 refl)
-              (and-then ! (load ! (from ! (fld ! refl (stop !))) (look-in ! 66 (sub ! 1 refl (whole !)))) (no-more !)))) (from ! (stop !))
-              (init ! 32 refl (tt, (tt, (record { fits = rooms .1 .1 .1 .1 .1 .0 .0 .1 .0 }, tt)))) $
-              forget ! 34 refl $
-              assigns ! (addr ! (from ! (fld ! refl (hop ! (look-in ! 64 (sub ! 0 refl (whole !))) (stop !))))) (from ! (stop !))
-              (init ! 30 refl (tt, tt)) $
-              assigns ! (agg ! (and-then ! (cell ! 30 refl)
-              (and-then ! (load ! (from ! (fld ! refl (stop !))) (look-in ! 64 (sub ! 1 refl (whole !)))) (no-more !)))) (from ! (stop !))
-              (init ! 28 refl (tt, (tt, (record { fits = rooms .1 .1 .1 .1 .1 .1 .0 .0 .1 .0 }, tt)))) $
-              forget ! 30 refl $
-              assigns ! (addr ! (from ! (fld ! refl (hop ! (look-in ! 62 (sub ! 0 refl (whole !))) (stop !))))) (from ! (stop !))
-              (init ! 26 refl (tt, tt)) $
-              assigns ! (agg ! (and-then ! (cell ! 26 refl)
-              (and-then ! (load ! (from ! (fld ! refl (stop !))) (look-in ! 62 (sub ! 1 refl (whole !)))) (no-more !)))) (from ! (stop !))
-              (init ! 24 refl (tt, (tt, (record { fits = rooms .1 .1 .1 .1 .1 .1 .1 .0 .0 .1 .0 }, tt)))) $
-              forget ! 26 refl $
+              lends-on ! 66 34 32 refl refl refl (tt, tt) refl refl refl (tt, (tt, (record { fits = rooms .1 .1 .1 .1 .1 .0 .0 .1 .0 }, tt))) refl $
+              lends-on ! 64 30 28 refl refl refl (tt, tt) refl refl refl (tt, (tt, (record { fits = rooms .1 .1 .1 .1 .1 .1 .0 .0 .1 .0 }, tt))) refl $
+              lends-on ! 62 26 24 refl refl refl (tt, tt) refl refl refl (tt, (tt, (record { fits = rooms .1 .1 .1 .1 .1 .1 .1 .0 .0 .1 .0 }, tt))) refl $
               lends8 enough
 
           -- columns 1 to 4 are lent on
           lends1 : jobCount ≤ length ys → Sq W (T₀ ∷ Table ∷ ‵ Lent ∷ Toks ∷ locals 𝓤 H En (Holding room (room ∷ room ∷ on (take 0 columns))) [])
               (runs C Λ En body.t-4 (atRet En Post))
           lends1 enough =
-              assigns ! (addr ! (from ! (fld ! refl (hop ! (look-in ! 74 (sub ! 0 refl (whole !))) (stop !))))) (from ! (stop !))
-              (init ! 50 refl (tt, tt)) $
-              assigns ! (agg ! (and-then ! (cell ! 50 refl)
-              (and-then ! (load ! (from ! (fld ! refl (stop !))) (look-in ! 74 (sub ! 1 refl (whole !)))) (no-more !)))) (from ! (stop !))
-              (init ! 48 refl (tt, (tt, (record { fits = rooms .1 .0 .0 .1 .0 }, tt)))) $
-              forget ! 50 refl $
-              assigns ! (addr ! (from ! (fld ! refl (hop ! (look-in ! 72 (sub ! 0 refl (whole !))) (stop !))))) (from ! (stop !))
-              (init ! 46 refl (tt, tt)) $
-              assigns ! (agg ! (and-then ! (cell ! 46 refl)
-              (and-then ! (load ! (from ! (fld ! refl (stop !))) (look-in ! 72 (sub ! 1 refl (whole !)))) (no-more !)))) (from ! (stop !))
-              (init ! 44 refl (tt, (tt, (record { fits = rooms .1 .1 .0 .0 .1 .0 }, tt)))) $
-              forget ! 46 refl $
-              assigns ! (addr ! (from ! (fld ! refl (hop ! (look-in ! 70 (sub ! 0 refl (whole !))) (stop !))))) (from ! (stop !))
-              (init ! 42 refl (tt, tt)) $
-              assigns ! (agg ! (and-then ! (cell ! 42 refl)
-              (and-then ! (load ! (from ! (fld ! refl (stop !))) (look-in ! 70 (sub ! 1 refl (whole !)))) (no-more !)))) (from ! (stop !))
-              (init ! 40 refl (tt, (tt, (record { fits = rooms .1 .1 .1 .0 .0 .1 .0 }, tt)))) $
-              forget ! 42 refl $
-              assigns ! (addr ! (from ! (fld ! refl (hop ! (look-in ! 68 (sub ! 0 refl (whole !))) (stop !))))) (from ! (stop !))
-              (init ! 38 refl (tt, tt)) $
-              assigns ! (agg ! (and-then ! (cell ! 38 refl)
-              (and-then ! (load ! (from ! (fld ! refl (stop !))) (look-in ! 68 (sub ! 1 refl (whole !)))) (no-more !)))) (from ! (stop !))
-              (init ! 36 refl (tt, (tt, (record { fits = rooms .1 .1 .1 .1 .0 .0 .1 .0 }, tt)))) $
-              forget ! 38 refl $
+              lends-on ! 74 50 48 refl refl refl (tt, tt) refl refl refl (tt, (tt, (record { fits = rooms .1 .0 .0 .1 .0 }, tt))) refl $
+              lends-on ! 72 46 44 refl refl refl (tt, tt) refl refl refl (tt, (tt, (record { fits = rooms .1 .1 .0 .0 .1 .0 }, tt))) refl $
+              lends-on ! 70 42 40 refl refl refl (tt, tt) refl refl refl (tt, (tt, (record { fits = rooms .1 .1 .1 .0 .0 .1 .0 }, tt))) refl $
+              lends-on ! 68 38 36 refl refl refl (tt, tt) refl refl refl (tt, (tt, (record { fits = rooms .1 .1 .1 .1 .0 .0 .1 .0 }, tt))) refl $
               lends5 enough
 
           -- the slots are counted: fewer than sixteen are refused, else the columns are lent on

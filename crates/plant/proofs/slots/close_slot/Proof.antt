@@ -17,8 +17,7 @@ use ghost.Atoms.{Atoms, sem}
 use contract.Monad.{Fun, factI}
 use contract.Running.{givenOf, tables, tablesOf}
 use types.Kit.{Given, ‵, _$_, _∵_, !, qed, by, move}
-use types.Part.{agg, whole, sub, look-in}
-use types.Run.{look, init, forget, stop, hop, fld, from, load, unit-lit, addr, of-opd, and-then, no-more, assigns, land, returns}
+use types.Run.{look, init, forget, stop, from, unit-lit, of-opd, and-then, no-more, assigns, land, returns}
 use sound.WpLaws.{fmOf}
 use denote.Laws.{Is}
 use denote.Plain.{uint-makes, uint-vals, uint-tells, nothing-lawful}
@@ -49,7 +48,7 @@ use Rattle.plant.proofs.slots.put.Symbol.{name as #put}
 use Rattle.plant.proofs.slots.put.Met as put-thm
 use Rattle.plant.proofs.Row.{R, makes, typed-at}
 use Rattle.walks.proofs.Locals.{has, freed}
-use Rattle.walks.proofs.Walking.{places, cell, env, enters, dropped-go}
+use Rattle.walks.proofs.Walking.{places, cell, env, enters, dropped-go, lends-on}
 use Rattle.walks.proofs.Lending.{table}
 use Rattle.walks.proofs.TableFirst.{asMut, asShr, listed, Exit, table-meets, mut-left}
 use Rattle.walks.proofs.Calling.{ToValues, ToTable, asks-values, asks-mut, asks-shr}
@@ -130,20 +129,12 @@ module _ {M : Type 1} (𝓤 : URA M) (H : Heap 𝓤) (A : Atoms 𝓤) (mem : Mem
           qed W (‵ (flft κ q) ∷ ‵ (MutSlice (named 0) κ R .own (table R b o γ ys) (s ∷ [])) ∷ []) ∵
           enters ! (𝓣 .C) (𝓣 .Λ) code.function (s ∷ vint w64 i ∷ []) Post ((tt, (tt, (record { fits = enough .0 }, tt))), ((tt, record { fits = fits }), tt)) (λ bs. move ! (20 ∷ 21 ∷ []) $
           -- [the token; the table; the locals, the last first: local k stands at 2 · (10 − k)]
-          assigns ! (addr ! (from ! (fld ! refl (hop ! (look-in ! 18 (sub ! 0 refl (whole !))) (stop !))))) (from ! (stop !))
-          (init ! 12 refl (tt, tt)) $
-          assigns ! (agg ! (and-then ! (cell ! 12 refl)
-          (and-then ! (load ! (from ! (fld ! refl (stop !))) (look-in ! 18 (sub ! 1 refl (whole !)))) (no-more !)))) (from ! (stop !))
-          (init ! 10 refl (tt, (tt, (record { fits = enough .0 }, tt)))) $
+          lends-on ! 18 12 10 refl refl refl (tt, tt) refl refl refl (tt, (tt, (record { fits = enough .0 }, tt))) refl $
           asks-shr R κ q b o γ ys (s ∷ []) ! (fmOf 𝓤 H (W .laws) 𝓣)
           (named 0) Rest (yes, tt) R (slot.clauses 𝓤 H A mem run) known-slot to-slot (λ j. j ≡ jobAt ys i) (λ _ _ _ _. id⊢ 𝓤 _)
           (λ _ _ _ _. and-then ! (cell ! 10 refl) (and-then ! (cell ! 16 refl) (no-more !)))
           (λ v j _ is. land ! (from ! (stop !)) (init ! 14 refl (typed-at 𝓤 H A W j v is)) $
-          assigns ! (addr ! (from ! (fld ! refl (hop ! (look-in ! 18 (sub ! 0 refl (whole !))) (stop !))))) (from ! (stop !))
-          (init ! 6 refl (tt, tt)) $
-          assigns ! (agg ! (and-then ! (cell ! 6 refl)
-          (and-then ! (load ! (from ! (fld ! refl (stop !))) (look-in ! 18 (sub ! 1 refl (whole !)))) (no-more !)))) (from ! (stop !))
-          (init ! 4 refl (tt, (tt, (record { fits = enough .0 }, tt)))) $
+          lends-on ! 18 6 4 refl refl refl (tt, tt) refl refl refl (tt, (tt, (record { fits = enough .0 }, tt))) refl $
           asks-values ! (fmOf 𝓤 H (W .laws) 𝓣) (plain (λ _. R) ∷ []) (yes, tt) R (close.clauses 𝓤 H A mem run) known-close (to-close j v is)
           (λ c. c ≡ noJob) (λ _ _. id⊢ 𝓤 _)
           (and-then ! (cell ! 14 refl) (no-more !)) (λ u c closed is′. land ! (from ! (stop !)) (init ! 2 refl (typed-at 𝓤 H A W c u is′)) $
@@ -153,7 +144,7 @@ module _ {M : Type 1} (𝓤 : URA M) (H : Heap 𝓤) (A : Atoms 𝓤) (mem : Mem
           (λ n _ l same-length list-is nothing-is.
           land ! (from ! (stop !)) (init ! 8 refl (nothing-lawful 𝓤 H A W .typed tt (n ∷ []) nothing-is .0)) $
           assigns ! (of-opd ! (unit-lit !)) (from ! (stop !)) (init ! 20 refl (tt, tt)) $ returns ! (look ! 20 refl) $
-          forget ! 2 refl $ forget ! 4 refl $ forget ! 6 refl $ forget ! 8 refl $ forget ! 10 refl $ forget ! 12 refl $ forget ! 14 refl $
+          forget ! 2 refl $ forget ! 4 refl $ forget ! 8 refl $ forget ! 10 refl $ forget ! 14 refl $
           move ! (places 2 20) $
           freed ! (env body.locals bs) (has vunit ∷ has s ∷ has (vint w64 i) ∷ []) $
           by ! (mut-left 𝓤 H A W R Rest (yes, tt) Own κ q b o γ ys l (s ∷ []) (i, tt)

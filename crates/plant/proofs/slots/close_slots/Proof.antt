@@ -20,8 +20,7 @@ use ghost.Atoms.{Atoms, sem}
 use contract.Monad.{Fun, factI}
 use contract.Running.{givenOf, tables, tablesOf}
 use types.Kit.{Given, Item, ‵, Sq, _$_, _∵_, !, qed, by, move, rewrite}
-use types.Part.{agg, whole, sub, look-in}
-use types.Run.{look, init, store, forget, stop, hop, fld, from, load, lit, unit-lit, addr, of-opd, bin, and-then, no-more, assigns, assigns-last}
+use types.Run.{look, init, store, forget, stop, from, lit, unit-lit, of-opd, bin, and-then, no-more, assigns, assigns-last}
 use types.Run.{stays, land, returns}
 use sound.WpLaws.{fmOf}
 use borrow.Author.Tests.{lt-ltb}
@@ -46,7 +45,7 @@ use Rattle.plant.proofs.slots.close_slot.Symbol.{name as #close}
 use Rattle.plant.proofs.slots.close_slot.Met as close-thm
 use Rattle.plant.proofs.Row.{R}
 use Rattle.walks.proofs.Locals.{room, has, locals, freed}
-use Rattle.walks.proofs.Walking.{places, cell, Blocks, env, enters, gives}
+use Rattle.walks.proofs.Walking.{places, cell, Blocks, env, enters, gives, lends-on}
 use Rattle.walks.proofs.Lending.{table}
 use Rattle.walks.proofs.TableFirst.{asMut, listed, Exit, table-meets, mut-left}
 use Rattle.walks.proofs.Calling.{ToTable, asks-mut}
@@ -129,11 +128,7 @@ module _ {M : Type 1} (𝓤 : URA M) (H : Heap 𝓤) (A : Atoms 𝓤) (mem : Mem
             -- [the token; the table; the locals, the last first: local k stands at 2 · (7 − k)]
             assigns ! (gives ! (ap vbool (lt-ltb i jobCount small)) (bin ! (cell ! 10 refl) (lit ! tt) tt)) (from ! (stop !))
             (init ! 8 refl (tt, tt)) $ stays ! (cell ! 8 refl) $
-            assigns ! (addr ! (from ! (fld ! refl (hop ! (look-in ! 12 (sub ! 0 refl (whole !))) (stop !))))) (from ! (stop !))
-            (init ! 4 refl (tt, tt)) $
-            assigns ! (agg ! (and-then ! (cell ! 4 refl)
-            (and-then ! (load ! (from ! (fld ! refl (stop !))) (look-in ! 12 (sub ! 1 refl (whole !)))) (no-more !)))) (from ! (stop !))
-            (init ! 2 refl (tt, (tt, (record { fits = enough .0 }, tt)))) $
+            lends-on ! 12 4 2 refl refl refl (tt, tt) refl refl refl (tt, (tt, (record { fits = enough .0 }, tt))) refl $
             asks-mut R κ q b o γ (after i) (s ∷ []) ! (fmOf 𝓤 H (W .laws) 𝓣)
             (named 0) CloseRest (yes, tt) unit (close.clauses 𝓤 H A mem run) known-close (to-close i small) (λ _ l. l ≡ set (after i) i noJob)
             (λ _ _ _ _. id⊢ 𝓤 _)
@@ -141,7 +136,7 @@ module _ {M : Type 1} (𝓤 : URA M) (H : Heap 𝓤) (A : Atoms 𝓤) (mem : Mem
             (λ u _ l _ list-is nothing-is. land ! (from ! (stop !)) (init ! 6 refl (nothing-lawful 𝓤 H A W .typed tt (u ∷ []) nothing-is .0)) $
             assigns-last ! (gives ! (ap (vint w64) (add-one i)) (bin ! (cell ! 10 refl) (lit ! tt) fits)) (from ! (stop !))
             (store ! 10 refl (tt, omega arith)) $ rewrite ! 1 Lent (list-is ∙ after-next i small) refl $
-            forget ! 2 refl $ forget ! 4 refl $ forget ! 6 refl $ forget ! 8 refl $ k)
+            forget ! 2 refl $ forget ! 6 refl $ forget ! 8 refl $ k)
           where
             -- the next turn's number is a word
             fits : Fits w64 (i + 1)

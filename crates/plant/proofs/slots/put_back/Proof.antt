@@ -20,8 +20,7 @@ use ghost.Atoms.{Atoms, sem}
 use contract.Monad.{Fun, factI}
 use contract.Running.{givenOf, tables, tablesOf}
 use types.Kit.{Given, Item, ‵, Sq, _$_, _∵_, !, qed, by, move, rewrite}
-use types.Part.{agg, whole, sub, look-in}
-use types.Run.{look, init, store, forget, stop, hop, fld, from, load, lit, unit-lit, addr, of-opd, bin, and-then, no-more, assigns, assigns-last}
+use types.Run.{look, init, store, forget, stop, from, lit, unit-lit, of-opd, bin, and-then, no-more, assigns, assigns-last}
 use types.Run.{stays, land, returns}
 use sound.WpLaws.{fmOf}
 use borrow.Author.Tests.{lt-ltb}
@@ -50,7 +49,7 @@ use Rattle.plant.proofs.slots.put.Symbol.{name as #put}
 use Rattle.plant.proofs.slots.put.Met as put-thm
 use Rattle.plant.proofs.Row.{R, makes, typed-at, Sixteen, all-val, all-vals, all-tells, all-makes, all-typed-at, all-long}
 use Rattle.walks.proofs.Locals.{room, has, locals, freed}
-use Rattle.walks.proofs.Walking.{places, cell, Blocks, env, enters, dropped-go, gives}
+use Rattle.walks.proofs.Walking.{places, cell, Blocks, env, enters, dropped-go, gives, lends-on}
 use Rattle.walks.proofs.Lending.{table}
 use Rattle.walks.proofs.TableFirst.{asMut, listed, Exit, table-meets, mut-left}
 use Rattle.walks.proofs.Calling.{ToValues, ToTable, asks-values, asks-mut}
@@ -158,11 +157,7 @@ module _ {M : Type 1} (𝓤 : URA M) (H : Heap 𝓤) (A : Atoms 𝓤) (mem : Mem
             -- [the token; the table; the locals, the last first: local k stands at 2 · (9 − k)]
             assigns ! (gives ! (ap vbool (lt-ltb i jobCount small)) (bin ! (cell ! 12 refl) (lit ! tt) tt)) (from ! (stop !))
             (init ! 10 refl (tt, tt)) $ stays ! (cell ! 10 refl) $
-            assigns ! (addr ! (from ! (fld ! refl (hop ! (look-in ! 16 (sub ! 0 refl (whole !))) (stop !))))) (from ! (stop !))
-            (init ! 6 refl (tt, tt)) $
-            assigns ! (agg ! (and-then ! (cell ! 6 refl)
-            (and-then ! (load ! (from ! (fld ! refl (stop !))) (look-in ! 16 (sub ! 1 refl (whole !)))) (no-more !)))) (from ! (stop !))
-            (init ! 4 refl (tt, (tt, (record { fits = enough .0 }, tt)))) $
+            lends-on ! 16 6 4 refl refl refl (tt, tt) refl refl refl (tt, (tt, (record { fits = enough .0 }, tt))) refl $
             asks-values ! (fmOf 𝓤 H (W .laws) 𝓣) NthParams (yes, (yes, tt)) R (nth.clauses 𝓤 H A mem run) known-nth (to-nth i small)
             (λ j. j ≡ jobAt js i) (λ _ _. id⊢ 𝓤 _)
             (and-then ! (cell ! 14 refl) (and-then ! (cell ! 12 refl) (no-more !)))
@@ -175,7 +170,7 @@ module _ {M : Type 1} (𝓤 : URA M) (H : Heap 𝓤) (A : Atoms 𝓤) (mem : Mem
             assigns-last ! (gives ! (ap (vint w64) (add-one i)) (bin ! (cell ! 12 refl) (lit ! tt) fits)) (from ! (stop !))
             (store ! 12 refl (tt, omega arith)) $
             rewrite ! 1 Lent (list-is ∙ (ap (set (after i) i) job-is ∙ moved-next noSlot js ys i (omega (arith, sixteen)))) refl $
-            forget ! 2 refl $ forget ! 4 refl $ forget ! 6 refl $ forget ! 8 refl $ forget ! 10 refl $ k))
+            forget ! 2 refl $ forget ! 4 refl $ forget ! 8 refl $ forget ! 10 refl $ k))
           where
             -- the next turn's number is a word
             fits : Fits w64 (i + 1)

@@ -22,7 +22,7 @@ use contract.Running.{givenOf, tables, tablesOf}
 use types.Kit.{Given, Item, Sq, runs, ‵, raw, _⊛_, ⋆, atRet, _$_, _∵_, !, qed, by, move, drop, use1, split, join, rewrite, fsplit, fjoin, suffices}
 use types.Kit.{frame, done}
 use types.Part.{agg, whole, sub, look-in}
-use types.Run.{look, init, forget, stop, hop, fld, from, load, lit, addr, of-opd, bin, and-then, no-more, assigns, first, branches, skips, exec, land}
+use types.Run.{look, init, forget, stop, fld, from, load, lit, of-opd, bin, and-then, no-more, assigns, first, branches, skips, exec, land}
 use types.Run.{returns, returns-within}
 use sound.WpLaws.{FmC, fmOf}
 use denote.Builtin.{unit, ArrayOf}
@@ -71,7 +71,7 @@ use Rattle.plant.proofs.Row.{R, Sixteen, all-makes, all-typed-at}
 use Rattle.walks.proofs.TableFirst.{asMut, asShr}
 use Rattle.plant.proofs.Values.{unit-typed, short-val, short-is, short-typed, answer-of, jobs-of, stepped-val, stepped-tells, stepped-answer}
 use Rattle.plant.proofs.Values.{stepped-jobs, answer-typed, stepped-typed}
-use Rattle.walks.proofs.Walking.{places, cell, Blocks, env, enters, walk-met}
+use Rattle.walks.proofs.Walking.{places, cell, Blocks, env, enters, walk-met, lends-on}
 use Rattle.plant.proofs.slots.taken_out as taken
 use Rattle.plant.proofs.slots.taken_out.Symbol as taken-def
 use Rattle.plant.proofs.slots.taken_out.Symbol.{name as #taken}
@@ -283,17 +283,13 @@ module _ {M : Type 1} (𝓤 : URA M) (H : Heap 𝓤) (A : Atoms 𝓤) (mem : Mem
               → Sq W (T₀ ∷ Table ∷ Others ws ∷ Toks ∷ locals 𝓤 H En (Holding room (room ∷ has (stepped-val r) ∷ [])) [])
               (runs C Λ En body.t-30 (atRet En Post))
           puts all r v ws enough out is did =
-              assigns ! (addr ! (from ! (fld ! refl (hop ! (look-in ! 90 (sub ! 0 refl (whole !))) (stop !))))) (from ! (stop !))
-              (init ! 6 refl (tt, tt)) $
-              assigns ! (agg ! (and-then ! (cell ! 6 refl)
-              (and-then ! (load ! (from ! (fld ! refl (stop !))) (look-in ! 90 (sub ! 1 refl (whole !)))) (no-more !)))) (from ! (stop !))
-              (init ! 4 refl (tt, (tt, (record { fits = rooms .0 .0 .1 .0 }, tt)))) $
+              lends-on ! 90 6 4 refl refl refl (tt, tt) refl refl refl (tt, (tt, (record { fits = rooms .0 .0 .1 .0 }, tt))) refl $
               asks-table ! fm (asMut R) BackRest (yes, tt) unit (back.clauses 𝓤 H A mem run) known-back κ q jobs (slice-vals jobs)
               (to-back r v is enough)
               (λ _ zs. zs .0 ≡ r .jobs ++ drops jobCount ys) (λ _ _. id⊢ 𝓤 _)
               (λ _. and-then ! (cell ! 3 refl)
               (and-then ! (load ! (from ! (fld ! refl (stop !))) (look-in ! 61 (sub ! 1 refl (whole !)))) (no-more !))) (λ w _ zs put nothing-is.
-              land ! (from ! (stop !)) (init ! 8 refl (unit-typed w nothing-is)) $ forget ! 8 refl $ forget ! 6 refl $ forget ! 4 refl $
+              land ! (from ! (stop !)) (init ! 8 refl (unit-typed w nothing-is)) $ forget ! 8 refl $ forget ! 4 refl $
               assigns ! (of-opd ! (load ! (from ! (fld ! refl (stop !))) (look-in ! 62 (sub ! 0 refl (whole !))))) (from ! (stop !))
               (init ! 92 refl (answer-typed 𝓤 H A W r v is)) $
               returns ! (look ! 92 refl) $ move ! (places 4 90) $ freed ! En (Holding (has (answer-of r)) (room ∷ has (stepped-val r) ∷ [])) $
@@ -328,24 +324,9 @@ module _ {M : Type 1} (𝓤 : URA M) (H : Heap 𝓤) (A : Atoms 𝓤) (mem : Mem
               → Sq W (T₀ ∷ Table ∷ ‵ Lent ∷ Toks ∷ locals 𝓤 H En (Holding room (Taking u (on (take 8 columns)))) [])
               (runs C Λ En body.t-23 (atRet En Post))
           lends9 all u enough out is =
-              assigns ! (addr ! (from ! (fld ! refl (hop ! (look-in ! 72 (sub ! 0 refl (whole !))) (stop !))))) (from ! (stop !))
-              (init ! 20 refl (tt, tt)) $
-              assigns ! (agg ! (and-then ! (cell ! 20 refl)
-              (and-then ! (load ! (from ! (fld ! refl (stop !))) (look-in ! 72 (sub ! 1 refl (whole !)))) (no-more !)))) (from ! (stop !))
-              (init ! 18 refl (tt, (tt, (record { fits = rooms .1 .1 .1 .1 .1 .1 .1 .1 .1 .0 .0 .1 .0 }, tt)))) $
-              forget ! 20 refl $
-              assigns ! (addr ! (from ! (fld ! refl (hop ! (look-in ! 70 (sub ! 0 refl (whole !))) (stop !))))) (from ! (stop !))
-              (init ! 16 refl (tt, tt)) $
-              assigns ! (agg ! (and-then ! (cell ! 16 refl)
-              (and-then ! (load ! (from ! (fld ! refl (stop !))) (look-in ! 70 (sub ! 1 refl (whole !)))) (no-more !)))) (from ! (stop !))
-              (init ! 14 refl (tt, (tt, (record { fits = rooms .1 .1 .1 .1 .1 .1 .1 .1 .1 .1 .0 .0 .1 .0 }, tt)))) $
-              forget ! 16 refl $
-              assigns ! (addr ! (from ! (fld ! refl (hop ! (look-in ! 68 (sub ! 0 refl (whole !))) (stop !))))) (from ! (stop !))
-              (init ! 12 refl (tt, tt)) $
-              assigns ! (agg ! (and-then ! (cell ! 12 refl)
-              (and-then ! (load ! (from ! (fld ! refl (stop !))) (look-in ! 68 (sub ! 1 refl (whole !)))) (no-more !)))) (from ! (stop !))
-              (init ! 10 refl (tt, (tt, (record { fits = rooms .1 .1 .1 .1 .1 .1 .1 .1 .1 .1 .1 .0 .0 .1 .0 }, tt)))) $
-              forget ! 12 refl $
+              lends-on ! 72 20 18 refl refl refl (tt, tt) refl refl refl (tt, (tt, (record { fits = rooms .1 .1 .1 .1 .1 .1 .1 .1 .1 .0 .0 .1 .0 }, tt))) refl $
+              lends-on ! 70 16 14 refl refl refl (tt, tt) refl refl refl (tt, (tt, (record { fits = rooms .1 .1 .1 .1 .1 .1 .1 .1 .1 .1 .0 .0 .1 .0 }, tt))) refl $
+              lends-on ! 68 12 10 refl refl refl (tt, tt) refl refl refl (tt, (tt, (record { fits = rooms .1 .1 .1 .1 .1 .1 .1 .1 .1 .1 .1 .0 .0 .1 .0 }, tt))) refl $
               calls all u enough out is
 
           -- columns 5 to 8 are lent on
@@ -353,30 +334,10 @@ module _ {M : Type 1} (𝓤 : URA M) (H : Heap 𝓤) (A : Atoms 𝓤) (mem : Mem
               → Sq W (T₀ ∷ Table ∷ ‵ Lent ∷ Toks ∷ locals 𝓤 H En (Holding room (Taking u (on (take 4 columns)))) [])
               (runs C Λ En body.t-15 (atRet En Post))
           lends5 all u enough out is =
-              assigns ! (addr ! (from ! (fld ! refl (hop ! (look-in ! 80 (sub ! 0 refl (whole !))) (stop !))))) (from ! (stop !))
-              (init ! 36 refl (tt, tt)) $
-              assigns ! (agg ! (and-then ! (cell ! 36 refl)
-              (and-then ! (load ! (from ! (fld ! refl (stop !))) (look-in ! 80 (sub ! 1 refl (whole !)))) (no-more !)))) (from ! (stop !))
-              (init ! 34 refl (tt, (tt, (record { fits = rooms .1 .1 .1 .1 .1 .0 .0 .1 .0 }, tt)))) $
-              forget ! 36 refl $
-              assigns ! (addr ! (from ! (fld ! refl (hop ! (look-in ! 78 (sub ! 0 refl (whole !))) (stop !))))) (from ! (stop !))
-              (init ! 32 refl (tt, tt)) $
-              assigns ! (agg ! (and-then ! (cell ! 32 refl)
-              (and-then ! (load ! (from ! (fld ! refl (stop !))) (look-in ! 78 (sub ! 1 refl (whole !)))) (no-more !)))) (from ! (stop !))
-              (init ! 30 refl (tt, (tt, (record { fits = rooms .1 .1 .1 .1 .1 .1 .0 .0 .1 .0 }, tt)))) $
-              forget ! 32 refl $
-              assigns ! (addr ! (from ! (fld ! refl (hop ! (look-in ! 76 (sub ! 0 refl (whole !))) (stop !))))) (from ! (stop !))
-              (init ! 28 refl (tt, tt)) $
-              assigns ! (agg ! (and-then ! (cell ! 28 refl)
-              (and-then ! (load ! (from ! (fld ! refl (stop !))) (look-in ! 76 (sub ! 1 refl (whole !)))) (no-more !)))) (from ! (stop !))
-              (init ! 26 refl (tt, (tt, (record { fits = rooms .1 .1 .1 .1 .1 .1 .1 .0 .0 .1 .0 }, tt)))) $
-              forget ! 28 refl $
-              assigns ! (addr ! (from ! (fld ! refl (hop ! (look-in ! 74 (sub ! 0 refl (whole !))) (stop !))))) (from ! (stop !))
-              (init ! 24 refl (tt, tt)) $
-              assigns ! (agg ! (and-then ! (cell ! 24 refl)
-              (and-then ! (load ! (from ! (fld ! refl (stop !))) (look-in ! 74 (sub ! 1 refl (whole !)))) (no-more !)))) (from ! (stop !))
-              (init ! 22 refl (tt, (tt, (record { fits = rooms .1 .1 .1 .1 .1 .1 .1 .1 .0 .0 .1 .0 }, tt)))) $
-              forget ! 24 refl $
+              lends-on ! 80 36 34 refl refl refl (tt, tt) refl refl refl (tt, (tt, (record { fits = rooms .1 .1 .1 .1 .1 .0 .0 .1 .0 }, tt))) refl $
+              lends-on ! 78 32 30 refl refl refl (tt, tt) refl refl refl (tt, (tt, (record { fits = rooms .1 .1 .1 .1 .1 .1 .0 .0 .1 .0 }, tt))) refl $
+              lends-on ! 76 28 26 refl refl refl (tt, tt) refl refl refl (tt, (tt, (record { fits = rooms .1 .1 .1 .1 .1 .1 .1 .0 .0 .1 .0 }, tt))) refl $
+              lends-on ! 74 24 22 refl refl refl (tt, tt) refl refl refl (tt, (tt, (record { fits = rooms .1 .1 .1 .1 .1 .1 .1 .1 .0 .0 .1 .0 }, tt))) refl $
               lends9 all u enough out is
 
           -- columns 1 to 4 are lent on
@@ -384,44 +345,20 @@ module _ {M : Type 1} (𝓤 : URA M) (H : Heap 𝓤) (A : Atoms 𝓤) (mem : Mem
               → Sq W (T₀ ∷ Table ∷ ‵ Lent ∷ Toks ∷ locals 𝓤 H En (Holding room (Taking u (on (take 0 columns)))) [])
               (runs C Λ En body.t-7 (atRet En Post))
           lends1 all u enough out is =
-              assigns ! (addr ! (from ! (fld ! refl (hop ! (look-in ! 88 (sub ! 0 refl (whole !))) (stop !))))) (from ! (stop !))
-              (init ! 52 refl (tt, tt)) $
-              assigns ! (agg ! (and-then ! (cell ! 52 refl)
-              (and-then ! (load ! (from ! (fld ! refl (stop !))) (look-in ! 88 (sub ! 1 refl (whole !)))) (no-more !)))) (from ! (stop !))
-              (init ! 50 refl (tt, (tt, (record { fits = rooms .1 .0 .0 .1 .0 }, tt)))) $
-              forget ! 52 refl $
-              assigns ! (addr ! (from ! (fld ! refl (hop ! (look-in ! 86 (sub ! 0 refl (whole !))) (stop !))))) (from ! (stop !))
-              (init ! 48 refl (tt, tt)) $
-              assigns ! (agg ! (and-then ! (cell ! 48 refl)
-              (and-then ! (load ! (from ! (fld ! refl (stop !))) (look-in ! 86 (sub ! 1 refl (whole !)))) (no-more !)))) (from ! (stop !))
-              (init ! 46 refl (tt, (tt, (record { fits = rooms .1 .1 .0 .0 .1 .0 }, tt)))) $
-              forget ! 48 refl $
-              assigns ! (addr ! (from ! (fld ! refl (hop ! (look-in ! 84 (sub ! 0 refl (whole !))) (stop !))))) (from ! (stop !))
-              (init ! 44 refl (tt, tt)) $
-              assigns ! (agg ! (and-then ! (cell ! 44 refl)
-              (and-then ! (load ! (from ! (fld ! refl (stop !))) (look-in ! 84 (sub ! 1 refl (whole !)))) (no-more !)))) (from ! (stop !))
-              (init ! 42 refl (tt, (tt, (record { fits = rooms .1 .1 .1 .0 .0 .1 .0 }, tt)))) $
-              forget ! 44 refl $
-              assigns ! (addr ! (from ! (fld ! refl (hop ! (look-in ! 82 (sub ! 0 refl (whole !))) (stop !))))) (from ! (stop !))
-              (init ! 40 refl (tt, tt)) $
-              assigns ! (agg ! (and-then ! (cell ! 40 refl)
-              (and-then ! (load ! (from ! (fld ! refl (stop !))) (look-in ! 82 (sub ! 1 refl (whole !)))) (no-more !)))) (from ! (stop !))
-              (init ! 38 refl (tt, (tt, (record { fits = rooms .1 .1 .1 .1 .0 .0 .1 .0 }, tt)))) $
-              forget ! 40 refl $
+              lends-on ! 88 52 50 refl refl refl (tt, tt) refl refl refl (tt, (tt, (record { fits = rooms .1 .0 .0 .1 .0 }, tt))) refl $
+              lends-on ! 86 48 46 refl refl refl (tt, tt) refl refl refl (tt, (tt, (record { fits = rooms .1 .1 .0 .0 .1 .0 }, tt))) refl $
+              lends-on ! 84 44 42 refl refl refl (tt, tt) refl refl refl (tt, (tt, (record { fits = rooms .1 .1 .1 .0 .0 .1 .0 }, tt))) refl $
+              lends-on ! 82 40 38 refl refl refl (tt, tt) refl refl refl (tt, (tt, (record { fits = rooms .1 .1 .1 .1 .0 .0 .1 .0 }, tt))) refl $
               lends5 all u enough out is
 
           -- the sixteen are taken out
           takes : jobCount ≤ length ys → Sq W (T₀ ∷ Table ∷ ‵ Lent ∷ Toks ∷ locals 𝓤 H En (Holding room []) []) (runs C Λ En body.t-4 (atRet En Post))
           takes enough =
-              assigns ! (addr ! (from ! (fld ! refl (hop ! (look-in ! 90 (sub ! 0 refl (whole !))) (stop !))))) (from ! (stop !))
-              (init ! 56 refl (tt, tt)) $
-              assigns ! (agg ! (and-then ! (cell ! 56 refl)
-              (and-then ! (load ! (from ! (fld ! refl (stop !))) (look-in ! 90 (sub ! 1 refl (whole !)))) (no-more !)))) (from ! (stop !))
-              (init ! 54 refl (tt, (tt, (record { fits = rooms .0 .0 .1 .0 }, tt)))) $
+              lends-on ! 90 56 54 refl refl refl (tt, tt) refl refl refl (tt, (tt, (record { fits = rooms .0 .0 .1 .0 }, tt))) refl $
               asks-shr R κ q (jobs .ptr .0) (jobs .ptr .1)
               (jobs .name) ys (slice-vals jobs) ! fm (named 0) [] tt Sixteen (taken.clauses 𝓤 H A mem run) known-taken (to-taken enough)
               (λ all. all ≡ take jobCount ys) (λ _ _ _ _. id⊢ 𝓤 _) (λ _ _ _ _. and-then ! (cell ! 54 refl) (no-more !)) (λ u all out is.
-              land ! (from ! (stop !)) (init ! 64 refl (all-typed-at 𝓤 H A W all u is)) $ forget ! 56 refl $ forget ! 54 refl $
+              land ! (from ! (stop !)) (init ! 64 refl (all-typed-at 𝓤 H A W all u is)) $ forget ! 54 refl $
               lends1 all u enough out is)
 
           -- the slots are counted: fewer than sixteen are refused, else they are taken out
