@@ -2,5 +2,6 @@ pub mod Row
 pub mod Moved
 pub mod Values
 pub mod Columns
+pub mod Ending
 pub mod Lent
 pub mod Once

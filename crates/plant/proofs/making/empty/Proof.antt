@@ -22,30 +22,28 @@ use ghost.Atoms.{Atoms, sem}
 use contract.Lifetimes.{Lfts, Shares, toks}
 use contract.Monad.{Fun, factI}
 use contract.Running.{givenOf, tables, tablesOf}
-use types.Kit.{Given, Item, Sq, runs, anyQ, ‵, raw, _⊛_, ⋆, atRet, _$_, _∵_, !, qed, by, move, use1, split, join, rewrite, fsplit, fjoin, suffices}
+use types.Kit.{Given, Item, Sq, runs, anyQ, ‵, raw, _⊛_, ⋆, atRet, _$_, _∵_, !, qed, by, move, use1, split, join, rewrite, fsplit, fjoin}
 use types.Kit.{frame, done}
 use types.Part.{agg, whole, sub, look-in}
 use types.Run.{look, init, forget, stop, fld, from, load, lit, of-opd, un, bin, and-then, no-more, assigns, first, branches, skips, exec}
 use types.Run.{land, returns, returns-within}
 use sound.WpLaws.{FmC, fmOf}
 use denote.Builtin.{unit}
-use denote.Enum.Laws as enum
 use denote.Laws.{Is, Are, Ises, Spells, valss, all-typed}
 use denote.RattleType.{RattleType, Denots, flat, owns}
 use denote.Ref.{RefT, now}
 use denote.Slice.{MutSlice, finally, slice-vals, mut-slice-tells, mut-slice-lawful}
-use denote.Steps.{only, owned}
+use denote.Steps.{only}
 use denote.Triple.Clauses.{Clauses, Lasts, lasts}
 use denote.Triple.Entry.{Args, Vals, onEntry}
 use denote.Triple.Spec.{Meets, tripleOf}
 use denote.Triple.Statement.{Contract, Triple}
 use denote.Triple.Table.{entered, cited}
-use denote.Triple.Walked.{says, Stays, walkOf, ends-at}
+use denote.Triple.Walked.{Stays}
 use Rattle.words.specs.declared.Answer.{Answer}
 use Rattle.words.specs.declared.Answer.the-variants.{Done, Short}
 use Rattle.words.specs.Numbers.{jobCount}
 use Rattle.words.proofs.Answer as An
-use Rattle.words.proofs.Answer.Laws as An′
 use Rattle.jobs.specs.declared.Job.{Job}
 use Rattle.jobs.specs.Job.{noJob}
 use Rattle.rulebook.specs.Tables.{plant}
@@ -58,12 +56,13 @@ use Rattle.machine.proofs.clear.Met as core-thm
 use Rattle.plant.specs.Calls.{made}
 use Rattle.walks.proofs.Calling.{ToTable, asks, asks-table}
 use Rattle.plant.proofs.Columns.{changing, Cols, spelt, told, lawful, columns-untouched, ten-left, ten-lent, on}
+use Rattle.plant.proofs.Ending.{Answered, gives-back}
 use Rattle.plant.proofs.Lent.{empty-few, empty-unclear, empty-clear}
 use Rattle.walks.proofs.Locals.{Has, room, has, locals, freed}
-use Rattle.walks.proofs.Passing.{all-said, all-fit, all-go, AllUntouched, lasts-of, all-untouched, table-said, table-untouched}
+use Rattle.walks.proofs.Passing.{all-said, all-go, AllUntouched, lasts-of, all-untouched, table-said, table-untouched}
 use Rattle.plant.proofs.Row.{R}
 use Rattle.walks.proofs.TableFirst.{asMut}
-use Rattle.plant.proofs.Values.{fails, not-fails, unit-typed, bool-typed, short-val, short-is, short-typed, done-val, done-is, done-typed}
+use Rattle.plant.proofs.Values.{answer-made, fails, not-fails, unit-typed, bool-typed, short-val, short-is, short-typed, done-val, done-is, done-typed}
 use Rattle.walks.proofs.Walking.{places, cell, Blocks, env, enters, walk-met, lends-on}
 use Rattle.plant.proofs.slots.close_slots as close
 use Rattle.plant.proofs.slots.close_slots.Symbol as close-def
@@ -147,7 +146,7 @@ module _ {M : Type 1} (𝓤 : URA M) (H : Heap 𝓤) (A : Atoms 𝓤) (mem : Mem
 
       -- ---- what there is at exit
       abbrev Post : Val → SProp 𝓤
-      Post = walkOf 𝓤 H A own.ended stayed Own .post (((κ, κs), (q, qs), tt, a, at), tt)
+      Post = Answered 𝓤 H A W own.ended Own (((κ, κs), (q, qs), tt, a, at), tt)
 
       -- what the machine leaves of the columns
       abbrev Leavings : Type 0
@@ -173,11 +172,8 @@ module _ {M : Type 1} (𝓤 : URA M) (H : Heap 𝓤) (A : Atoms 𝓤) (mem : Mem
       exits : (r : Answer) (v : Val) (zs : List Job) (ws : Leavings) → Is An.the-row r (v ∷ []) → Did r zs ws
           → ent 𝓤 (⋆ 𝓤 H A (T₀ ∷ Slots zs ∷ Others ws ∷ Toks ∷ [])) (Post v)
       exits r v zs ws is did =
-          qed W (T₀ ∷ Slots zs ∷ Others ws ∷ Toks ∷ []) ∵
-          suffices ! _ (ends-at 𝓤 H A own.ended stayed Own W (((κ, κs), (q, qs), tt, a, at), tt) v r (zs, ws)
-          (all-fit (κ, κs) (own.signature .params) (own.ended .kept) a (zs, ws))) $ says ! did $
-          move ! (0 ∷ 3 ∷ []) $ join ! $ frame ! $ fjoin ! $
-          owned ! An.the-row (Is An.the-row) (enum.makes An.the-type An′.the-plain 𝓤 H A) r _ is $ move ! (1 ∷ 0 ∷ []) $ done !
+          qed W (T₀ ∷ Slots zs ∷ Others ws ∷ Toks ∷ []) ∵ move ! (1 ∷ 2 ∷ []) $ fjoin ! $ move ! (1 ∷ 2 ∷ []) $ join ! $
+          by ! (gives-back 𝓤 H A W own.ended Own (((κ, κs), (q, qs), tt, a, at), tt) r v (zs, ws) (answer-made 𝓤 H A r v is) (factI 𝓤 _ (emp 𝓤) did))
 
       -- where there are fewer than sixteen slots, nothing was touched
       abbrev untouched : AllUntouched 𝓤 H A Types a at
@@ -191,10 +187,9 @@ module _ {M : Type 1} (𝓤 : URA M) (H : Heap 𝓤) (A : Atoms 𝓤) (mem : Mem
       refused : Holds (ltb (length ys) jobCount) → ent 𝓤 (⋆ 𝓤 H A ((T₀ ⊛ Toks) ∷ ‵ (owns Types a at) ∷ [])) (Post short-val)
       refused few =
           qed W ((T₀ ⊛ Toks) ∷ ‵ (owns Types a at) ∷ []) ∵
-          suffices ! _ (ends-at 𝓤 H A own.ended stayed Own W (((κ, κs), (q, qs), tt, a, at), tt) short-val Short same
-          (all-fit (κ, κs) (own.signature .params) (own.ended .kept) a same)) $ says ! (empty-few (ten-lent rest) ys (ltb→lt _ _ few)) $
-          frame ! $ use1 W (‵ (lasts own.ended (κ, κs) a same)) (all-untouched 𝓤 H A (κ, κs) (own.signature .params) a at untouched) $
-          owned ! An.the-row (Is An.the-row) (enum.makes An.the-type An′.the-plain 𝓤 H A) Short _ short-is $ move ! (1 ∷ 0 ∷ []) $ done !
+          move ! (1 ∷ []) $ use1 W (‵ (lasts own.ended (κ, κs) a same)) (all-untouched 𝓤 H A (κ, κs) (own.signature .params) a at untouched) $
+          move ! (1 ∷ 0 ∷ []) $ by ! (gives-back 𝓤 H A W own.ended Own (((κ, κs), (q, qs), tt, a, at), tt) Short short-val same
+          (answer-made 𝓤 H A Short short-val short-is) (factI 𝓤 _ (emp 𝓤) (empty-few (ten-lent rest) ys (ltb→lt _ _ few))))
 
       -- ---- what the two are passed, and that it is there: `clear` the columns
       abbrev to-core : Core .Ghost

@@ -19,14 +19,13 @@ use ghost.Atoms.{Atoms, sem}
 use contract.Lifetimes.{Lfts, Shares, toks}
 use contract.Monad.{Fun, factI, top}
 use contract.Running.{givenOf, tables, tablesOf}
-use types.Kit.{Given, Item, Sq, runs, ‵, raw, _⊛_, ⋆, atRet, _$_, _∵_, !, qed, by, move, drop, use1, split, join, rewrite, fsplit, fjoin, suffices}
+use types.Kit.{Given, Item, Sq, runs, ‵, raw, _⊛_, ⋆, atRet, _$_, _∵_, !, qed, by, move, drop, use1, split, join, rewrite, fsplit, fjoin}
 use types.Kit.{frame, done}
 use types.Part.{agg, whole, sub, look-in}
 use types.Run.{look, init, forget, stop, fld, from, load, lit, of-opd, bin, and-then, no-more, assigns, first, branches, skips, exec, land}
 use types.Run.{returns, returns-within}
 use sound.WpLaws.{FmC, fmOf}
 use denote.Builtin.{unit, ArrayOf}
-use denote.Enum.Laws as enum
 use denote.Exit.{yes}
 use denote.Laws.{Is, Are, Ises, Spells, valss, all-typed}
 use denote.RattleType.{RattleType, Denots, flat, owns}
@@ -41,11 +40,9 @@ use denote.Triple.Entry.{Args, Vals, onEntry}
 use denote.Triple.Spec.{Meets, tripleOf}
 use denote.Triple.Statement.{Contract, Triple}
 use denote.Triple.Table.{entered, cited}
-use denote.Triple.Walked.{says, Stays, walkOf, ends-at}
+use denote.Triple.Walked.{Stays}
 use Rattle.words.specs.declared.Answer.the-variants.{Short}
 use Rattle.words.specs.Numbers.{jobCount}
-use Rattle.words.proofs.Answer as An
-use Rattle.words.proofs.Answer.Laws as An′
 use Rattle.jobs.specs.declared.Job.{Job}
 use Rattle.jobs.specs.declared.Stepped.{Stepped}
 use Rattle.jobs.proofs.Stepped as St
@@ -64,12 +61,13 @@ use Rattle.plant.specs.Calls.{left}
 use Rattle.walks.proofs.Calling.{ToTable, asks, asks-table, asks-shr}
 use Rattle.plant.proofs.Columns.{changing, Cols, spelt, told, lawful, columns-untouched, ten-left, ten-lent, on}
 use Rattle.walks.proofs.Lending.{table}
+use Rattle.plant.proofs.Ending.{Answered, gives-back}
 use Rattle.plant.proofs.Lent.{step-few, step-taken}
 use Rattle.walks.proofs.Locals.{Has, room, has, locals, freed}
-use Rattle.walks.proofs.Passing.{other-slots, all-said, all-fit, all-go, AllUntouched, lasts-of, all-untouched, table-untouched}
+use Rattle.walks.proofs.Passing.{other-slots, all-said, all-go, AllUntouched, lasts-of, all-untouched, table-untouched}
 use Rattle.plant.proofs.Row.{R, Sixteen, all-makes, all-typed-at}
 use Rattle.walks.proofs.TableFirst.{asMut, asShr}
-use Rattle.plant.proofs.Values.{unit-typed, short-val, short-is, short-typed, answer-of, jobs-of, stepped-val, stepped-tells, stepped-answer}
+use Rattle.plant.proofs.Values.{answer-made, unit-typed, short-val, short-is, short-typed, answer-of, jobs-of, stepped-val, stepped-tells, stepped-answer}
 use Rattle.plant.proofs.Values.{stepped-jobs, answer-typed, stepped-typed}
 use Rattle.walks.proofs.Walking.{places, cell, Blocks, env, enters, walk-met, lends-on}
 use Rattle.plant.proofs.slots.taken_out as taken
@@ -166,7 +164,7 @@ module _ {M : Type 1} (𝓤 : URA M) (H : Heap 𝓤) (A : Atoms 𝓤) (mem : Mem
 
       -- ---- what there is at exit
       abbrev Post : Val → SProp 𝓤
-      Post = walkOf 𝓤 H A own.ended stayed Own .post (((κ, κs), (q, qs), tt, a, at), tt)
+      Post = Answered 𝓤 H A W own.ended Own (((κ, κs), (q, qs), tt, a, at), tt)
 
       -- what the machine leaves of the columns and the output
       abbrev Leavings : Type 0
@@ -196,12 +194,9 @@ module _ {M : Type 1} (𝓤 : URA M) (H : Heap 𝓤) (A : Atoms 𝓤) (mem : Mem
       exits : (r : Stepped) (v : Val) (zs : List Job) (ws : Leavings) → Is St.the-row r (v ∷ []) → Did r zs ws
           → ent 𝓤 (⋆ 𝓤 H A (T₀ ∷ Slots zs ∷ Others ws ∷ Toks ∷ [])) (Post (answer-of r))
       exits r v zs ws is did =
-          qed W (T₀ ∷ Slots zs ∷ Others ws ∷ Toks ∷ []) ∵
-          suffices ! _ (ends-at 𝓤 H A own.ended stayed Own W (((κ, κs), (q, qs), tt, a, at), tt) (answer-of r) (r .answer) (zs, ws)
-          (all-fit (κ, κs) (own.signature .params) (own.ended .kept) a (zs, ws))) $ says ! did $
-          move ! (0 ∷ 3 ∷ []) $ join ! $ frame ! $ fjoin ! $
-          owned ! An.the-row (Is An.the-row) (enum.makes An.the-type An′.the-plain 𝓤 H A) (r .answer) _ (stepped-answer r v is) $
-          move ! (1 ∷ 0 ∷ []) $ done !
+          qed W (T₀ ∷ Slots zs ∷ Others ws ∷ Toks ∷ []) ∵ move ! (1 ∷ 2 ∷ []) $ fjoin ! $ move ! (1 ∷ 2 ∷ []) $ join ! $
+          by ! (gives-back 𝓤 H A W own.ended Own (((κ, κs), (q, qs), tt, a, at), tt) (r .answer) (answer-of r) (zs, ws)
+          (answer-made 𝓤 H A (r .answer) (answer-of r) (stepped-answer r v is)) (factI 𝓤 _ (emp 𝓤) did))
 
       -- where there are fewer than sixteen slots, nothing was touched
       abbrev untouched : AllUntouched 𝓤 H A Types a at
@@ -219,10 +214,9 @@ module _ {M : Type 1} (𝓤 : URA M) (H : Heap 𝓤) (A : Atoms 𝓤) (mem : Mem
       refused : Holds (ltb (length ys) jobCount) → ent 𝓤 (⋆ 𝓤 H A ((T₀ ⊛ Toks) ∷ ‵ (owns Types a at) ∷ [])) (Post short-val)
       refused few =
           qed W ((T₀ ⊛ Toks) ∷ ‵ (owns Types a at) ∷ []) ∵
-          suffices ! _ (ends-at 𝓤 H A own.ended stayed Own W (((κ, κs), (q, qs), tt, a, at), tt) short-val Short same
-          (all-fit (κ, κs) (own.signature .params) (own.ended .kept) a same)) $ says ! (step-few (ten-lent rest) ys out-lent event (ltb→lt _ _ few)) $
-          frame ! $ use1 W (‵ (lasts own.ended (κ, κs) a same)) (all-untouched 𝓤 H A (κ, κs) (own.signature .params) a at untouched) $
-          owned ! An.the-row (Is An.the-row) (enum.makes An.the-type An′.the-plain 𝓤 H A) Short _ short-is $ move ! (1 ∷ 0 ∷ []) $ done !
+          move ! (1 ∷ []) $ use1 W (‵ (lasts own.ended (κ, κs) a same)) (all-untouched 𝓤 H A (κ, κs) (own.signature .params) a at untouched) $
+          move ! (1 ∷ 0 ∷ []) $ by ! (gives-back 𝓤 H A W own.ended Own (((κ, κs), (q, qs), tt, a, at), tt) Short short-val same
+          (answer-made 𝓤 H A Short short-val short-is) (factI 𝓤 _ (emp 𝓤) (step-few (ten-lent rest) ys out-lent event (ltb→lt _ _ few))))
 
       -- ---- what the three are passed, and that it is there: `taken_out` the table, which has sixteen slots
       to-taken : jobCount ≤ length ys → (ν : ℕ) (δ : GName)
