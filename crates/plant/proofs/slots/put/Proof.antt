@@ -34,7 +34,7 @@ use denote.Triple.Walked.{needs, goes-slice}
 use denote.Exit.{yes}
 use Rattle.jobs.specs.Slots.{noSlot}
 use Rattle.jobs.specs.declared.Job.{Job}
-use Rattle.plant.proofs.Row.{R, val, vals, tells, showing, makes, typed, bytes}
+use Rattle.plant.proofs.Row.{R, val, vals, tells, showing, makes, typed-at, bytes}
 use Rattle.walks.proofs.Locals.{has, freed}
 use Rattle.walks.proofs.Walking.{places, cell, env, enters, dropped-go, gives}
 use Rattle.walks.proofs.Lending.{table, opened, closed}
@@ -74,7 +74,7 @@ module _ {M : Type 1} (𝓤 : URA M) (H : Heap 𝓤) (A : Atoms 𝓤) (mem : Mem
         (WpFn 𝓤 H (𝓣 .C) (𝓣 .Λ) code.function (s ∷ vint w64 i ∷ val j ∷ []) Post)
     walk =
         qed W (‵ (flft κ q) ∷ ‵ (MutSlice (named 0) κ R .own (table R b o γ ys) (s ∷ [])) ∷ []) ∵
-        enters ! (𝓣 .C) (𝓣 .Λ) code.function (s ∷ vint w64 i ∷ val j ∷ []) Post ((tt, (tt, (record { fits = enough .0 }, tt))), ((tt, record { fits = fits }), (typed 𝓤 H A W j is, tt))) (λ bs.
+        enters ! (𝓣 .C) (𝓣 .Λ) code.function (s ∷ vint w64 i ∷ val j ∷ []) Post ((tt, (tt, (record { fits = enough .0 }, tt))), ((tt, record { fits = fits }), (typed-at 𝓤 H A W j (val j) is, tt))) (λ bs.
         -- [the locals, the last first: local k stands at 2 · (5 − k); the token; the table]
         assigns ! (bin ! (cell ! 6 refl) (lit ! tt) scaled) (from ! (stop !)) (init ! 2 refl (tt, scaled)) $
         assigns ! (gives ! (ap (vptr b) (sym (bytes o i)))
@@ -83,7 +83,7 @@ module _ {M : Type 1} (𝓤 : URA M) (H : Heap 𝓤) (A : Atoms 𝓤) (mem : Mem
         move ! (12 ∷ 13 ∷ []) $ opened R κ q b o γ ys (s ∷ []) ! tt (named 0)
         (λ lent. elem-out ! R (Is R) (showing 𝓤 H A) vals tells fullShare ys i noSlot b o within (λ _.
         -- [the slot; what its job owns; the other slots; the open borrow; the locals]
-        assigns ! (of-opd ! (cell ! 8 refl)) (from ! (hop ! (look ! 4 refl) (stop !))) (store-raw ! 0 refl (typed 𝓤 H A W j is)) $
+        assigns ! (of-opd ! (cell ! 8 refl)) (from ! (hop ! (look ! 4 refl) (stop !))) (store-raw ! 0 refl (typed-at 𝓤 H A W j (val j) is)) $
         move ! (1 ∷ []) $ drop ! $ owned ! R (Is R) (makes 𝓤 H A) j (vals j) is $ move ! (1 ∷ 0 ∷ []) $
         elem-put ! R fullShare ys i j (vals j) b o within $
         closed R κ q b o γ ys (s ∷ []) ! tt (named 0) (set ys i j) (length-set ys i j) lent $

@@ -33,7 +33,7 @@ use denote.Triple.Walked.{needs, goes-dropped}
 use denote.Exit.{yes}
 use Rattle.jobs.specs.Slots.{noSlot, jobAt}
 use Rattle.jobs.specs.declared.Job.{Job}
-use Rattle.plant.proofs.Row.{R, val, vals, tells, showing, makes, copies, typed, bytes}
+use Rattle.plant.proofs.Row.{R, val, vals, tells, showing, makes, copies, typed-at, bytes}
 use Rattle.walks.proofs.Locals.{has, freed}
 use Rattle.walks.proofs.Walking.{places, cell, env, enters, dropped-go, gives}
 use Rattle.walks.proofs.Lending.{table}
@@ -87,8 +87,8 @@ module _ {M : Type 1} (𝓤 : URA M) (H : Heap 𝓤) (A : Atoms 𝓤) (mem : Mem
         (showing 𝓤 H A) vals tells share ys i noSlot b o within (λ is.
         -- [the slot; what its job owns; the other slots; what shuts the table; the table; the locals]
         assigns ! (of-opd ! (load ! (from ! (hop ! (look ! 7 refl) (stop !))) (look-raw ! 0 refl))) (from ! (stop !))
-        (init ! 5 refl (typed 𝓤 H A W job is)) $
-        assigns ! (of-opd ! (cell ! 5 refl)) (from ! (stop !)) (init ! 15 refl (typed 𝓤 H A W job is)) $
+        (init ! 5 refl (typed-at 𝓤 H A W job (val job) is)) $
+        assigns ! (of-opd ! (cell ! 5 refl)) (from ! (stop !)) (init ! 15 refl (typed-at 𝓤 H A W job (val job) is)) $
         elem-back ! R share ys i noSlot (vals job) b o within $ shuts-slice ! tt R share ys b o $ move ! (1 ∷ []) $ drop ! $
         -- [the token; the locals]
         returns ! (look ! 11 refl) $ move ! (places 1 12) $
