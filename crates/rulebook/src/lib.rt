@@ -38,7 +38,8 @@ pub const CRASH: u32 = 16;
 
 pub const RESTART: u32 = 17;
 
-// An event: its kind and its fields in order, zeros in the rest.
+// An event: its kind and its fields in order, zeros in the rest. Laid out as in C, since other programs pass it.
+#[repr(C)]
 pub struct Event {
     pub kind: u32,
     pub a: Serial,

@@ -1,0 +1,2 @@
+pub mod Handing
+pub mod Once
