@@ -2,7 +2,7 @@
 -- Assumes nothing.
 use Prim.Native.Nat.{ℕ, zero, suc, _+_, _<_, _≤_}
 use mathlib.Core.Path.{_≡_, refl, sym, _∙_}
-use mathlib.Core.Bool.{Bool, true, false, cond, not, _&&_}
+use mathlib.Core.Bool.{Bool, true, false, cond, not, _&&_, false≢true}
 use mathlib.Core.List.{List, [], _∷_}
 use lib.Dec.{eqb}
 use lib.ListN.{length}
@@ -77,44 +77,52 @@ module _ (a b : Job) (r : Bool) (p : r ≡ jobThere b (a .station)) where
   together some e q = rw (← p, not-false r e) q
 
 -- of job j
-module _ (t : Copies) (bs : List Job) (j : ℕ) (r : Bool) (p : r ≡ jobOpen (jobAt bs j)) where
+module _ (t : Copies) (bs : List Job) (j : ℕ) (b : Job) (same : b ≡ jobAt bs j) (r : Bool) (p : r ≡ jobOpen b) where
   -- a slot that isn't open
   pub job-not-open : not r ≡ true → true ≡ W4job t bs j
   unfolding W4job _⇒_
-  job-not-open e = rw (← p, not-true r e)
+  job-not-open e = rw (← same, ← p, not-true r e)
 
   -- an open job
-  pub open-job : (u l a : Bool) → not r ≡ false → u ≡ isUp t (jobAt bs j .station) → l ≡ W4locks t (jobAt bs j) → a ≡ W4alone bs j → (u && l && a) ≡ W4job t bs j
+  pub open-job : (u l a : Bool) → not r ≡ false → u ≡ isUp t (b .station) → l ≡ W4locks t b → a ≡ W4alone bs j → (u && l && a) ≡ W4job t bs j
   unfolding W4job _⇒_ _and_
-  open-job u l a e h w q = rw (← p, not-false r e, h, w, q)
+  open-job u l a e h w q = rw (← same, ← p, not-false r e, h, w, q)
 
 -- ---- slot j
 -- past W1, the job's station is one, and each lock's series
 pub in-ranges : (b : Job) (r : Bool) → r ≡ W1job b → not r ≡ false → (b .station < stationCount) × ((i : ℕ) → i < lockCount → lockAt b i .series < seriesCount)
 in-ranges b r p e = let w = W1job-reflects b .0 (sym p ∙ not-false r e) in (w .ofStation, λ i l. w .ofLock i l .ofSeries)
 
-module _ (t : Copies) (bs : List Job) (j : ℕ) (a : Bool) (p : a ≡ W1job (jobAt bs j)) where
+module _ (t : Copies) (bs : List Job) (j : ℕ) (b : Job) (same : b ≡ jobAt bs j) (a : Bool) (p : a ≡ W1job b) where
   -- W1 is broken
   pub slot-W1 : not a ≡ true → 1 ≡ brokenJob t bs j
   unfolding brokenJob broken _orElse_
-  slot-W1 e = rw (← p, not-true a e)
+  slot-W1 e = rw (← same, ← p, not-true a e)
 
-  module _ (e : not a ≡ false) (b : Bool) (q : b ≡ W4job t bs j) where
+  module _ (e : not a ≡ false) (o : Bool) (q : o ≡ W4job t bs j) where
     -- W4 is
-    pub slot-W4 : not b ≡ true → 4 ≡ brokenJob t bs j
+    pub slot-W4 : not o ≡ true → 4 ≡ brokenJob t bs j
     unfolding brokenJob broken _orElse_
-    slot-W4 f = rw (← p, not-false a e, ← q, not-true b f)
+    slot-W4 f = rw (← same, ← p, not-false a e, ← q, not-true o f)
 
-    module _ (f : not b ≡ false) (c : Bool) (h : c ≡ W5job (jobAt bs j)) where
+    module _ (f : not o ≡ false) (c : Bool) (h : c ≡ W5job b) where
       -- W5 is
       pub slot-W5 : not c ≡ true → 5 ≡ brokenJob t bs j
       unfolding brokenJob broken _orElse_
-      slot-W5 g = rw (← p, not-false a e, ← q, not-false b f, ← h, not-true c g)
+      slot-W5 g = rw (← same, ← p, not-false a e, ← q, not-false o f, ← h, not-true c g)
 
       -- none is
       pub slot-fine : not c ≡ false → 0 ≡ brokenJob t bs j
       unfolding brokenJob broken _orElse_
-      slot-fine g = rw (← p, not-false a e, ← q, not-false b f, ← h, not-false c g)
+      slot-fine g = rw (← same, ← p, not-false a e, ← q, not-false o f, ← h, not-false c g)
+
+-- a slot that isn't open, in range and with its zeros
+pub slot-unused : (t : Copies) (bs : List Job) (j : ℕ) (o a c : Bool) → o ≡ jobOpen (jobAt bs j) → a ≡ W1job (jobAt bs j) → c ≡ W5job (jobAt bs j)
+    → (not o && a && c) ≡ true → brokenJob t bs j ≡ 0
+slot-unused t bs j false true true p q r e = sym (slot-fine t bs j _ refl true q refl true (job-not-open t bs j _ refl false p refl) refl true r refl)
+slot-unused t bs j true a c p q r e = absurd (false≢true e)
+slot-unused t bs j false false c p q r e = absurd (false≢true e)
+slot-unused t bs j false true false p q r e = absurd (false≢true e)
 
 -- ---- what the walk finds
 -- a rule's number that isn't 0 is found broken

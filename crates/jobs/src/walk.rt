@@ -185,46 +185,45 @@ fn unused_fine(job: Job) -> bool
     places
 }
 
-// W4 of job j, whose numbers are in range.
+// W4 of a job whose numbers are in range; `apart` says that no other job locks what it locks exclusively.
 fn open_fine(
-    jobs: [Job; JOBS],
+    job: Job,
     firsts: &[Serial],
     lasts: &[Serial],
     kinds: &[u32],
     values: &[Serial],
     up: &[u32],
-    j: usize,
+    apart: bool,
 ) -> bool
-    requires { ⌜ (seriesCount ≤ length (now firsts)) × (seriesCount ≤ length (now lasts)) × (placeCount ≤ length (now kinds)) × (placeCount ≤ length (now values)) × (stationCount ≤ length (now up)) × (j < jobCount) × (jobAt jobs j .station < stationCount) × ((i : ℕ) → i < lockCount → lockAt (jobAt jobs j) i .series < seriesCount) ⌝ }
-    ensures { λ r. ⌜ ((ns rt rk rv gs : List ℕ) → r ≡ W4job (tables (now (firsts .entry)) (now (lasts .entry)) (now (kinds .entry)) (now (values .entry)) ns rt rk rv gs (now (up .entry))) jobs j) ⌝ }
+    requires { ⌜ (seriesCount ≤ length (now firsts)) × (seriesCount ≤ length (now lasts)) × (placeCount ≤ length (now kinds)) × (placeCount ≤ length (now values)) × (stationCount ≤ length (now up)) × (job .station < stationCount) × ((i : ℕ) → i < lockCount → lockAt job i .series < seriesCount) ⌝ }
+    ensures { λ r. ⌜ ((ns rt rk rv gs : List ℕ) (bs : List Job) (j : ℕ) → job ≡ jobAt bs j → apart ≡ W4alone bs j → r ≡ W4job (tables (now (firsts .entry)) (now (lasts .entry)) (now (kinds .entry)) (now (values .entry)) ns rt rk rv gs (now (up .entry))) bs j) ⌝ }
 {
-    let job = jobs[j];
     if !job.is_open() {
         return true;
     }
-    is_up(up, job.station) & locks_fine(job, firsts, lasts, kinds, values) & alone(jobs, j)
+    is_up(up, job.station) & locks_fine(job, firsts, lasts, kinds, values) & apart
 }
 
-// The number of the first rule that job j breaks.
+// The number of the first rule that a job breaks; `apart` says that no other job locks what it locks exclusively.
 fn job_rule(
-    jobs: [Job; JOBS],
+    job: Job,
     firsts: &[Serial],
     lasts: &[Serial],
     kinds: &[u32],
     values: &[Serial],
     up: &[u32],
-    j: usize,
+    apart: bool,
 ) -> u32
-    requires { ⌜ (seriesCount ≤ length (now firsts)) × (seriesCount ≤ length (now lasts)) × (placeCount ≤ length (now kinds)) × (placeCount ≤ length (now values)) × (stationCount ≤ length (now up)) × (j < jobCount) ⌝ }
-    ensures { λ r. ⌜ ((ns rt rk rv gs : List ℕ) → r ≡ brokenJob (tables (now (firsts .entry)) (now (lasts .entry)) (now (kinds .entry)) (now (values .entry)) ns rt rk rv gs (now (up .entry))) jobs j) ⌝ }
+    requires { ⌜ (seriesCount ≤ length (now firsts)) × (seriesCount ≤ length (now lasts)) × (placeCount ≤ length (now kinds)) × (placeCount ≤ length (now values)) × (stationCount ≤ length (now up)) ⌝ }
+    ensures { λ r. ⌜ ((ns rt rk rv gs : List ℕ) (bs : List Job) (j : ℕ) → job ≡ jobAt bs j → apart ≡ W4alone bs j → r ≡ brokenJob (tables (now (firsts .entry)) (now (lasts .entry)) (now (kinds .entry)) (now (values .entry)) ns rt rk rv gs (now (up .entry))) bs j) ⌝ }
 {
-    if !in_range(jobs[j]) {
+    if !in_range(job) {
         return W1;
     }
-    if !open_fine(jobs, firsts, lasts, kinds, values, up, j) {
+    if !open_fine(job, firsts, lasts, kinds, values, up, apart) {
         return W4;
     }
-    if !unused_fine(jobs[j]) {
+    if !unused_fine(job) {
         return W5;
     }
     UNBROKEN
@@ -243,7 +242,13 @@ fn broken_rule(
     ensures { λ r. ⌜ ((ns rt rk rv gs : List ℕ) → r ≡ firstBrokenJob (tables (now (firsts .entry)) (now (lasts .entry)) (now (kinds .entry)) (now (values .entry)) ns rt rk rv gs (now (up .entry))) jobs) ⌝ }
 {
     for j in 0..JOBS {
-        let rule = job_rule(jobs, firsts, lasts, kinds, values, up, j);
+        let job = jobs[j];
+        // Most slots are unused, which a look at the slot alone tells.
+        let unused = !job.is_open() & in_range(job) & unused_fine(job);
+        if unused {
+            continue;
+        }
+        let rule = job_rule(job, firsts, lasts, kinds, values, up, alone(jobs, j));
         if rule != UNBROKEN {
             return rule;
         }

@@ -4,54 +4,29 @@ use Rattle.jobs.proofs.Ways.{in-ranges, slot-W1, slot-W4, slot-W5, slot
 use Rattle.jobs.proofs.walk.job_rule.Statement.{statement}
 use Rattle.jobs.proofs.walk.job_rule.Tie as tie
 
-mul-in-range : tie.Need-mul-in-range
-mul-in-range c = search needs
-
-array-copy-out-in-range : tie.Need-array-copy-out-in-range
-array-copy-out-in-range c = search needs
-
 in-range-requires : tie.Need-in-range-requires
 in-range-requires c κs = search needs
 
 returns : tie.Need-returns
-returns c ns rt rk rv gs = search slot-W1
+returns c ns rt rk rv gs bs j same apart = search slot-W1
 
 open-fine-requires : tie.Need-open-fine-requires
 open-fine-requires c κs =
-    let p = c .before .before .before .before .before .before .before .before .pre in
+    let p = c .before .before .before .before .before .before .before .pre in
     let range = in-ranges _ _ (c .before .in-range .ensures) (c .if1 .left) in
-    (p .0, p .1, p .2, p .3, p .4, p .5, range .0, range .1)
+    (p .0, p .1, p .2, p .3, p .4, range .0, range .1)
 
 returns-2 : tie.Need-returns-2
-returns-2 c ns rt rk rv gs = search (slot-W4, c .before .open-fine .ensures)
-
-mul-unused-fine : tie.Need-mul-unused-fine
-mul-unused-fine c = search needs
-
-array-copy-out-unused-fine : tie.Need-array-copy-out-unused-fine
-array-copy-out-unused-fine c = search needs
+returns-2 c ns rt rk rv gs bs j same apart = search (slot-W4, c .before .open-fine .ensures)
 
 unused-fine-requires : tie.Need-unused-fine-requires
 unused-fine-requires c κs = search needs
 
 returns-3 : tie.Need-returns-3
-returns-3 c ns rt rk rv gs = search (slot-W5, c .before .before .before .before .open-fine .ensures)
+returns-3 c ns rt rk rv gs bs j same apart = search (slot-W5, c .before .before .before .open-fine .ensures)
 
 returns-4 : tie.Need-returns-4
-returns-4 c ns rt rk rv gs = search (slot-fine, c .before .before .before .before .open-fine .ensures)
+returns-4 c ns rt rk rv gs bs j same apart = search (slot-fine, c .before .before .before .open-fine .ensures)
 
 pub job-rule-spec : {M : Type 1} → statement M
-job-rule-spec =
-    tie.close
-    (tie.spec
-    mul-in-range
-    array-copy-out-in-range
-    in-range-requires
-    returns
-    open-fine-requires
-    returns-2
-    mul-unused-fine
-    array-copy-out-unused-fine
-    unused-fine-requires
-    returns-3
-    returns-4)
+job-rule-spec = tie.close (tie.spec in-range-requires returns open-fine-requires returns-2 unused-fine-requires returns-3 returns-4)
