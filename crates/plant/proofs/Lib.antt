@@ -1,6 +1,7 @@
 pub mod Row
 pub mod Moved
 pub mod Values
+pub mod Stored
 pub mod Columns
 pub mod Ending
 pub mod Lent

@@ -9,7 +9,6 @@ ghost use Rattle.jobs.specs.Job.{noJob};
 ghost use Rattle.jobs.specs.Slots.{jobAt};
 use crate::sixteen::nth;
 use crate::sixteen::unused;
-use crate::sixteen::with;
 use jobs::Job;
 use words::JOBS;
 
@@ -46,7 +45,7 @@ pub fn taken_out(jobs: &[Job]) -> [Job; JOBS]
     let mut all = unused();
     let mut i: usize = 0;
     while i < JOBS {
-        all = with(all, i, slot(jobs, i));
+        all[i] = slot(jobs, i);
         i += 1;
     }
     all
