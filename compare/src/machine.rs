@@ -1,9 +1,6 @@
 //! The plant numbering machine: its tables, the check that they are whole,
 //! the step and the question for the holders of a series.
 
-// Each program that includes this file uses only a part of it.
-#![allow(dead_code)]
-
 pub const SERIES: usize = 64;
 pub const STATIONS: usize = 8;
 pub const JOBS: usize = 16;
@@ -44,7 +41,11 @@ pub const RESTART: u32 = 17;
 /// How many fields each kind has. Kind 0 doesn't exist.
 pub const FIELDS: [usize; 18] = [0, 4, 2, 2, 2, 3, 2, 1, 1, 3, 2, 3, 2, 2, 4, 4, 1, 1];
 
+// What is handed over whole is laid out as in C, so that a machine behind a C
+// interface can take and give the same.
+
 #[derive(Clone, Copy, Debug, PartialEq, Eq)]
+#[repr(C)]
 pub struct Event {
     pub kind: u32,
     /// Zeros after the kind's own fields.
@@ -52,6 +53,7 @@ pub struct Event {
 }
 
 #[derive(Clone, Copy, Debug, PartialEq, Eq)]
+#[repr(C)]
 pub struct Answer {
     /// 0 when accepted, else the number of the refusal.
     pub code: u32,
@@ -60,6 +62,7 @@ pub struct Answer {
 
 /// Who holds a series; all zero after a refusal.
 #[derive(Clone, Copy, Debug, PartialEq, Eq)]
+#[repr(C)]
 pub struct Holders {
     pub code: u32,
     /// Bit i for station i.
@@ -92,12 +95,25 @@ pub enum Refusal {
     NoMessage = 18,
 }
 
+/// The rules of whole tables.
+#[derive(Clone, Copy, Debug, PartialEq, Eq)]
+pub enum Rule {
+    W1 = 1,
+    W2 = 2,
+    W3 = 3,
+    W4 = 4,
+    W5 = 5,
+}
+
+/// Nothing when the rules are kept, or the first one found broken.
+type Kept = Result<(), Rule>;
 /// The value of an accepted step, or the refusal.
 type Outcome = Result<u32, Refusal>;
 /// Nothing when a check is passed, or the refusal.
 type Check = Result<(), Refusal>;
 
 #[derive(Clone, Copy, Debug, Default, PartialEq, Eq)]
+#[repr(C)]
 pub struct Lock {
     pub series: u32,
     /// 0 for an unused place, 1 share, 2 exclusive.
@@ -107,6 +123,7 @@ pub struct Lock {
 }
 
 #[derive(Clone, Copy, Debug, Default, PartialEq, Eq)]
+#[repr(C)]
 pub struct Job {
     pub mark: u32,
     pub station: u32,
@@ -149,6 +166,15 @@ pub fn place(series: usize, station: usize) -> usize {
     series * STATIONS + station
 }
 
+/// Nothing, or the broken rule or the refusal that is named.
+fn need<Wrong>(holds: bool, otherwise: Wrong) -> Result<(), Wrong> {
+    if holds {
+        Ok(())
+    } else {
+        Err(otherwise)
+    }
+}
+
 fn all_zero(numbers: &[u32]) -> bool {
     numbers.iter().all(|&number| number == 0)
 }
@@ -171,33 +197,49 @@ pub fn empty() -> Machine {
     }
 }
 
+impl Machine {
+    /// Makes an empty plant of any tables; the output stays.
+    pub fn clear(&mut self) {
+        for column in self.columns_mut() {
+            column.fill(0);
+        }
+        self.stations.fill(1);
+        self.jobs.fill(Job::default());
+    }
+}
+
 // When tables are whole.
 impl Machine {
     /// W1 to W5.
     pub fn whole(&self) -> bool {
-        for series in 0..SERIES {
-            if !self.series_whole(series) {
-                return false;
-            }
-        }
-        for &mark in &self.stations {
-            if mark > 1 {
-                return false; // W1
-            }
-        }
-        for job in 0..JOBS {
-            if !self.job_whole(job) {
-                return false;
-            }
-        }
-        true
+        self.rules_kept().is_ok()
     }
 
-    fn series_whole(&self, series: usize) -> bool {
-        if self.firsts[series] == 0 {
-            return self.series_zero(series);
+    /// The rule that the walk over the tables finds broken first.
+    pub fn first_broken(&self) -> Option<Rule> {
+        self.rules_kept().err()
+    }
+
+    fn rules_kept(&self) -> Kept {
+        for series in 0..SERIES {
+            self.series_whole(series)?;
         }
-        self.ranges_whole(series) && self.received_whole(series) && self.tokens_whole(series)
+        for &mark in &self.stations {
+            need(mark <= 1, Rule::W1)?;
+        }
+        for job in 0..JOBS {
+            self.job_whole(job)?;
+        }
+        Ok(())
+    }
+
+    fn series_whole(&self, series: usize) -> Kept {
+        if self.firsts[series] == 0 {
+            return need(self.series_zero(series), Rule::W5);
+        }
+        self.ranges_whole(series)?;
+        self.received_whole(series)?;
+        need(self.tokens_whole(series), Rule::W2)
     }
 
     /// W5: a series that isn't open keeps nothing but zeros.
@@ -215,43 +257,33 @@ impl Machine {
     }
 
     /// W1 for an open series, and W5 for its Releases that don't stand.
-    fn ranges_whole(&self, series: usize) -> bool {
+    fn ranges_whole(&self, series: usize) -> Kept {
         let (first, last) = (self.firsts[series], self.lasts[series]);
-        if first > last || last > NUMBER_MOST {
-            return false;
-        }
+        need(first <= last && last <= NUMBER_MOST, Rule::W1)?;
         for station in 0..STATIONS {
             let at = place(series, station);
-            if self.kinds[at] > EXCLUSIVE || self.sent[at] > SENT_MOST {
-                return false;
-            }
-            if self.values[at] < first || self.values[at] > last + 1 {
-                return false;
-            }
-            if !self.release_whole(at, station, first, last) {
-                return false;
-            }
+            need(self.kinds[at] <= EXCLUSIVE && self.sent[at] <= SENT_MOST, Rule::W1)?;
+            need(self.values[at] >= first && self.values[at] <= last + 1, Rule::W1)?;
+            self.release_whole(at, station, first, last)?;
         }
-        true
+        Ok(())
     }
 
-    fn release_whole(&self, at: usize, station: usize, first: u32, last: u32) -> bool {
+    fn release_whole(&self, at: usize, station: usize, first: u32, last: u32) -> Kept {
         let (to, value) = (self.release_to[at], self.release_value[at]);
         match self.release_kind[at] {
-            VOID => to == 0 && value == 0, // W5
+            VOID => need(to == 0 && value == 0, Rule::W5),
             SHARED | EXCLUSIVE => {
-                (to as usize) < STATIONS
-                    && to as usize != station
-                    && value >= first
-                    && value <= last + 1
-                    && self.sent[at] >= 1
+                let addressed = (to as usize) < STATIONS && to as usize != station;
+                let in_range = value >= first && value <= last + 1;
+                need(addressed && in_range && self.sent[at] >= 1, Rule::W1)
             }
-            _ => false,
+            _ => Err(Rule::W1),
         }
     }
 
     /// W3. With the sent counts in range, so are the received numbers (W1).
-    fn received_whole(&self, series: usize) -> bool {
+    fn received_whole(&self, series: usize) -> Kept {
         let start = place(series, 0);
         let sent = &self.sent[start..start + STATIONS];
         let release_to = &self.release_to[start..start + STATIONS];
@@ -261,19 +293,15 @@ impl Machine {
             let received = &self.received[at..at + STATIONS];
             for sender in 0..STATIONS {
                 let number = received[sender];
-                if number > sent[sender] {
-                    return false;
-                }
-                if sender == station && number != 0 {
-                    return false;
-                }
+                need(number <= sent[sender], Rule::W3)?;
+                need(sender != station || number == 0, Rule::W3)?;
                 let stands = release_kind[sender] != VOID;
-                if stands && number == sent[sender] && release_to[sender] as usize != station {
-                    return false;
+                if stands && number == sent[sender] {
+                    need(release_to[sender] as usize == station, Rule::W3)?;
                 }
             }
         }
-        true
+        Ok(())
     }
 
     /// W2: one exclusive alone or shares alone, all with equal values.
@@ -303,59 +331,45 @@ impl Machine {
         (exclusives == 1 && shares == 0) || (exclusives == 0 && shares >= 1)
     }
 
-    fn job_whole(&self, slot: usize) -> bool {
+    fn job_whole(&self, slot: usize) -> Kept {
         let job = &self.jobs[slot];
-        match job.mark {
-            0 => return *job == Job::default(), // W5
-            1 => {}
-            _ => return false, // W1
+        if job.mark == 0 {
+            return need(*job == Job::default(), Rule::W5);
         }
-        if job.station as usize >= STATIONS || self.stations[job.station as usize] != 1 {
-            return false; // W1, W4
-        }
+        need(job.mark == 1 && (job.station as usize) < STATIONS, Rule::W1)?;
+        need(self.station_up(job.station as usize), Rule::W4)?;
         let used = job.used();
         for lock in &job.locks[used..] {
-            if *lock != Lock::default() {
-                return false; // W5
-            }
+            need(*lock == Lock::default(), Rule::W5)?;
         }
         for number in 0..used {
-            if !self.lock_whole(slot, number) {
-                return false;
-            }
+            self.lock_whole(slot, number)?;
         }
-        true
+        Ok(())
     }
 
     /// W4 for one lock of a job whose station is known to be in range.
-    fn lock_whole(&self, slot: usize, number: usize) -> bool {
+    fn lock_whole(&self, slot: usize, number: usize) -> Kept {
         let job = &self.jobs[slot];
         let lock = &job.locks[number];
         let series = lock.series as usize;
-        if series >= SERIES || self.firsts[series] == 0 {
-            return false;
-        }
+        need(series < SERIES && lock.mode <= EXCLUSIVE, Rule::W1)?;
+        need(self.series_open(series), Rule::W4)?;
         for earlier in &job.locks[..number] {
-            if earlier.series == lock.series {
-                return false;
-            }
+            need(earlier.series != lock.series, Rule::W4)?;
         }
         let at = place(series, job.station as usize);
-        if self.kinds[at] != lock.mode {
-            return false; // a mode above 2 ends here too, as no kind is
-        }
+        need(self.kinds[at] == lock.mode, Rule::W4)?;
         if lock.mode == SHARED {
-            return lock.count == 0;
+            return need(lock.count == 0, Rule::W4);
         }
-        if lock.count > self.lasts[series] + 1 - self.values[at] {
-            return false;
-        }
+        need(lock.count <= self.lasts[series] + 1 - self.values[at], Rule::W4)?;
         for (other, that) in self.jobs.iter().enumerate() {
-            if other != slot && that.station == job.station && that.lock_on(series).is_some() {
-                return false;
+            if other != slot && that.station == job.station {
+                need(that.lock_on(series).is_none(), Rule::W4)?;
             }
         }
-        true
+        Ok(())
     }
 }
 
@@ -478,14 +492,6 @@ fn named_transfer(series: u32, from: u32, to: u32) -> Result<(usize, usize, usiz
     Ok(named)
 }
 
-fn need(holds: bool, otherwise: Refusal) -> Check {
-    if holds {
-        Ok(())
-    } else {
-        Err(otherwise)
-    }
-}
-
 // Refusals 5 to 16 that several kinds share.
 impl Machine {
     fn need_series(&self, series: usize) -> Check {
@@ -516,21 +522,32 @@ impl Machine {
 }
 
 // The step.
+
+/// Every refusal has value 0.
+fn answered(outcome: Outcome) -> Answer {
+    match outcome {
+        Ok(value) => Answer { code: 0, value },
+        Err(refusal) => Answer {
+            code: refusal as u32,
+            value: 0,
+        },
+    }
+}
+
 impl Machine {
     pub fn step(&mut self, event: Event) -> Answer {
-        match self.outcome(event) {
-            Ok(value) => Answer { code: 0, value },
-            Err(refusal) => Answer {
-                code: refusal as u32,
-                value: 0,
-            },
+        if !self.whole() {
+            return answered(Err(Refusal::NotWhole)); // refusal 2
         }
+        self.step_unchecked(event)
+    }
+
+    /// All of a step but the whole check, for tables known to be whole.
+    pub fn step_unchecked(&mut self, event: Event) -> Answer {
+        answered(self.outcome(event))
     }
 
     fn outcome(&mut self, event: Event) -> Outcome {
-        if !self.whole() {
-            return Err(Refusal::NotWhole); // refusal 2
-        }
         let count = match FIELDS.get(event.kind as usize) {
             Some(&count) => count,
             None => return Err(Refusal::BadEvent),

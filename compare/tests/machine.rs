@@ -1,20 +1,12 @@
 //! The machine by itself: the edges, the order of refusals, whole tables.
 
-#[path = "../src/machine.rs"]
-mod machine;
-
-use machine::*;
-
-fn event(words: &[u32]) -> Event {
-    let mut fields = [0; 4];
-    fields[..words.len() - 1].copy_from_slice(&words[1..]);
-    Event { kind: words[0], fields }
-}
+use compare::machine::*;
+use compare::maker::event;
 
 /// Steps, and sees that a refusal has value 0 and changes nothing.
 fn step(machine: &mut Machine, words: &[u32]) -> (u32, u32) {
     let before = machine.clone();
-    let answer = machine.step(event(words));
+    let answer = machine.step(event(words[0], &words[1..]));
     if answer.code != 0 {
         assert_eq!(answer.value, 0);
         assert!(*machine == before, "a refusal changed a table");
@@ -276,11 +268,14 @@ fn busy() -> Machine {
     ])
 }
 
-fn broken(rule: &str, change: fn(&mut Machine)) {
+/// The words begin with the name of the rule that is broken.
+fn broken(words: &str, change: fn(&mut Machine)) {
     let mut plant = busy();
     assert!(plant.whole());
     change(&mut plant);
-    assert!(!plant.whole(), "not seen: {}", rule);
+    let rule = plant.first_broken().map(|rule| format!("{:?}", rule));
+    assert_eq!(rule.as_deref(), words.get(..2), "{}", words);
+    assert!(!plant.whole());
     refused(&plant, &[0], 2);
     refused(&plant, &[CRASH, 1], 2);
 }
@@ -289,6 +284,16 @@ fn still_whole(what: &str, change: fn(&mut Machine)) {
     let mut plant = busy();
     change(&mut plant);
     assert!(plant.whole(), "wrongly refused: {}", what);
+}
+
+#[test]
+fn cleared_tables_are_an_empty_plant() {
+    let mut plant = busy();
+    plant.output = [7; OUTPUT];
+    plant.clear();
+    assert_eq!(plant.output, [7; OUTPUT]);
+    plant.output = [0; OUTPUT];
+    assert!(plant == empty());
 }
 
 #[test]

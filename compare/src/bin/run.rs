@@ -1,10 +1,7 @@
 //! The run program: event lines on standard input, answer lines on standard
 //! output, in constant memory.
 
-#[path = "../machine.rs"]
-mod machine;
-
-use machine::{empty, Event, Machine, COMMIT, FIELDS};
+use compare::machine::{empty, Event, Machine, COMMIT, FIELDS};
 use std::io::{self, Read, Write};
 use std::process;
 
