@@ -20,7 +20,7 @@ use Rattle.copies.proofs.Reading.{read-kind, read-value, read-beyond}
 use Rattle.jobs.specs.declared.Job.{Job}
 use Rattle.jobs.specs.declared.Stepped.{Stepped}
 use Rattle.jobs.specs.Job.{jobOpen, lockOn, locksSeries}
-use Rattle.jobs.specs.Slots.{jobAt}
+use Rattle.jobs.specs.Slots.{jobAt, free}
 use Rattle.jobs.specs.Draws.{entryThere, fits}
 use Rattle.jobs.specs.Facts.{OpenJob}
 use Rattle.jobs.specs.Calls as jobs
@@ -146,7 +146,7 @@ module _ (p : Plant) (out : List ℕ) where
       (λ _. refl))))
 
   -- LOCKX
-  pub whole-LOCKX : (a b c d : ℕ) → Sound p out (event LOCKX a b c d) → slots .leaves (jobs.lockx (p .copies) (p .jobs) a b) ≡ after3 p out (event LOCKX a b c d)
+  pub whole-LOCKX : (a b c d : ℕ) → Sound p out (event LOCKX a b c d) → slots .leaves (jobs.lockx (p .copies) (p .jobs) (free (p .jobs) b (jobAt (p .jobs) a .station)) a b) ≡ after3 p out (event LOCKX a b c d)
   unfolding judges jobs.lockx jobs.lockIn doLOCKX
   whole-LOCKX a b c d w =
       pass slots Short _ _ _ (long-lock (w .long))

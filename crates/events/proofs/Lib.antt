@@ -4,4 +4,5 @@ pub mod Judged
 pub mod CopyEvents
 pub mod JobEvents
 pub mod Unchecked
+pub mod Named
 pub mod Ways

@@ -18,19 +18,19 @@ use Rattle.rulebook.specs.Steps.{Outcome, judged, effect, stepOf}
 use Rattle.rulebook.specs.Events.{OPEN}
 use Rattle.rulebook.proofs.Judging.{_then_}
 use Rattle.rulebook.proofs.Admits.{Sound, sound}
-use Rattle.events.specs.Unchecked.{copyEvent, jobEvent, called, uncheckedStep, SameInWhole}
+use Rattle.events.specs.Unchecked.{copyEvent, jobEvent, jobTurn, called, uncheckedStep, SameInWhole}
 use Rattle.events.proofs.Judged.{judges, after3, past3}
 use Rattle.events.proofs.CopyEvents.{whole-OPEN, whole-SEND, whole-DEMOTE, whole-SHARE, whole-DROP, whole-PROMOTE, whole-GRANT, whole-ACK, whole-RESTART}
 use Rattle.events.proofs.JobEvents.{whole-BEGIN, whole-LOCKX, whole-LOCKS, whole-DRAW, whole-READ, whole-COMMIT, whole-ABORT, whole-CRASH}
 
 -- ---- a statement of every kind
 -- of n kinds from k on
-abbrev Kinds : (P : ℕ → Type 0) (k n : ℕ) → Type 0
+abbrev pub Kinds : (P : ℕ → Type 0) (k n : ℕ) → Type 0
 Kinds P k zero = Unit {0}
 Kinds P k (suc n) = P k × Kinds P (suc k) n
 
 -- holds of each of them
-of-kind : (P : ℕ → Type 0) (k n i : ℕ) → Kinds P k n → k ≤ i → i < k + n → P i
+pub of-kind : (P : ℕ → Type 0) (k n i : ℕ) → Kinds P k n → k ≤ i → i < k + n → P i
 of-kind P k zero i all l m = absurd (omega arith)
 of-kind P k (suc n) i all l m =
     dite (ℕ-discrete i k) (λ e. subst P (sym e) (all .0)) (λ ne. of-kind P (suc k) n i (all .1) (omega (arith, ne)) (omega arith))
@@ -46,7 +46,7 @@ module _ (p : Plant) (out : List ℕ) where
 
   -- so it is at each of the seventeen
   same-kinds : Kinds SameAt OPEN 17
-  unfolding copyEvent jobEvent judges
+  unfolding copyEvent jobEvent jobTurn judges
   same-kinds =
       whole-OPEN p out
       then whole-BEGIN p out

@@ -5,14 +5,15 @@ use Prim.Native.Nat.{ℕ}
 use mathlib.Core.Path.{_≡_}
 use mathlib.Core.Bool.{Bool, true, false, cond, _&&_, _||_}
 use mathlib.Core.List.{List}
-use lib.Dec.{eqb, leb}
+use lib.Dec.{eqb, ltb, leb}
 use Rattle.words.specs.declared.Answer.the-variants.{BadEvent}
+use Rattle.words.specs.Numbers.{jobCount}
 use Rattle.words.specs.Tests.{refuseIf}
 use Rattle.copies.specs.Tables.{Copies}
 use Rattle.copies.specs.Calls as copies
 use Rattle.jobs.specs.declared.Job.{Job}
 use Rattle.jobs.specs.declared.Stepped.{Stepped}
-use Rattle.jobs.specs.Slots.{free}
+use Rattle.jobs.specs.Slots.{jobAt, free}
 use Rattle.jobs.specs.Calls as jobs
 use Rattle.rulebook.specs.declared.Event.{Event}
 use Rattle.rulebook.specs.Tables.{Plant, withCopies}
@@ -39,21 +40,38 @@ copyEvent t free e =
 abbrev slotsOnly : Copies → List ℕ → Stepped → jobs.Outcome
 slotsOnly t out r = jobs.outcome r t out
 
--- an event that a job takes part in
-unfoldable pub jobEvent : Copies → List Job → List ℕ → Event → jobs.Outcome
-jobEvent t bs out e =
+-- an event that a job takes part in, but CRASH; `free` says for LOCKX that no job locks the copy
+unfoldable pub jobTurn : Copies → List Job → Bool → List ℕ → Event → jobs.Outcome
+jobTurn t bs free out e =
     cond (eqb (e .kind) BEGIN) (slotsOnly t out (jobs.begin t bs (e .a) (e .b)))
-    (cond (eqb (e .kind) LOCKX) (slotsOnly t out (jobs.lockx t bs (e .a) (e .b)))
+    (cond (eqb (e .kind) LOCKX) (slotsOnly t out (jobs.lockx t bs free (e .a) (e .b)))
     (cond (eqb (e .kind) LOCKS) (slotsOnly t out (jobs.locks t bs (e .a) (e .b)))
     (cond (eqb (e .kind) DRAW) (slotsOnly t out (jobs.draw t bs (e .a) (e .b) (e .c)))
     (cond (eqb (e .kind) READ) (slotsOnly t out (jobs.stepped (jobs.read t bs (e .a) (e .b)) bs))
     (cond (eqb (e .kind) COMMIT) (jobs.commit t bs out (e .a))
-    (cond (eqb (e .kind) ABORT) (slotsOnly t out (jobs.abort bs (e .a)))
-    (cond (eqb (e .kind) CRASH) (jobs.crash t bs out (e .a)) (jobs.refused t bs out BadEvent))))))))
+    (cond (eqb (e .kind) ABORT) (slotsOnly t out (jobs.abort bs (e .a))) (jobs.refused t bs out BadEvent)))))))
+
+-- an event that a job takes part in
+unfoldable pub jobEvent : Copies → List Job → List ℕ → Event → jobs.Outcome
+jobEvent t bs out e =
+    cond (eqb (e .kind) CRASH) (jobs.crash t bs out (e .a)) (jobTurn t bs (free bs (e .b) (jobAt bs (e .a) .station)) out e)
 
 -- a job takes part in events of this kind: BEGIN to ABORT, and CRASH
 abbrev pub takesJob : ℕ → Bool
 takesJob k = leb BEGIN k && leb k ABORT || eqb k CRASH
+
+-- the slot that an event may name: its first field, where there is such a slot
+unfoldable pub slotOf : Event → ℕ
+slotOf e = cond (ltb (e .a) jobCount) (e .a) 0
+
+-- refusal 11 is asked of these kinds: that a copy is free
+abbrev pub asksFree : ℕ → Bool
+asksFree k = eqb k LOCKX || eqb k SEND || eqb k DEMOTE || eqb k DROP || eqb k PROMOTE
+
+-- whether the copy that an event is about is free, as far as its kind asks: of LOCKX the one at the job's station
+unfoldable pub freeFor : List Job → Job → Event → Bool
+freeFor bs b e =
+    cond (asksFree (e .kind)) (cond (eqb (e .kind) LOCKX) (free bs (e .b) (b .station)) (free bs (e .a) (e .b))) true
 
 -- what an event of the lower layer leaves of a plant and an output
 abbrev pub ofCopies : Plant → List ℕ → copies.Outcome → Outcome
@@ -72,6 +90,12 @@ called p out e =
 -- THE STEP WITHOUT THE CHECK: BAD EVENT, or that call
 unfoldable pub uncheckedStep : Plant → List ℕ → Event → Outcome
 uncheckedStep p out e = refuseIf (BAD-EVENT p e) (record { answer = BadEvent; plant = p; out = out }) (called p out e)
+
+-- the same of any kind but CRASH, which closes many jobs; `free` says, where the kind asks, that no job locks the copy
+unfoldable pub uncheckedTurn : Plant → Bool → List ℕ → Event → Outcome
+uncheckedTurn p free out e =
+    refuseIf (BAD-EVENT p e) (record { answer = BadEvent; plant = p; out = out })
+    (cond (takesJob (e .kind) && ltb (e .a) jobCount) (ofJobs (jobTurn (p .copies) (p .jobs) free out e)) (ofCopies p out (copyEvent (p .copies) free e)))
 
 -- THE STATEMENT: given whole tables, and room for the output, the same outcome as the step's.
 abbrev pub SameInWhole : Type 0

@@ -1,18 +1,26 @@
 // An event by its kind: the call of the layer that it belongs to, and the step without the whole check.
 ghost use mathlib.Core.Path.{_≡_};
+ghost use mathlib.Core.Bool.{true, false};
 ghost use mathlib.Core.List.{List};
 ghost use Prim.Native.Nat.{ℕ};
 ghost use Rattle.copies.specs.Tables.{tables};
 ghost use Rattle.copies.specs.Calls.{outcome};
+ghost use lib.Dec.{eqb};
+ghost use Rattle.jobs.specs.declared.Job.{Job};
+ghost use Rattle.jobs.specs.Slots.{jobAt};
 ghost use Rattle.jobs.specs.Calls as upper;
+ghost use Rattle.rulebook.specs.Events.{CRASH};
 ghost use Rattle.rulebook.specs.Tables.{plant};
 ghost use Rattle.events.specs.Calls.{left};
-ghost use Rattle.events.specs.Unchecked.{copyEvent, jobEvent, uncheckedStep};
+ghost use Rattle.events.specs.Unchecked.{copyEvent, jobTurn, slotOf, uncheckedTurn, uncheckedStep};
 use crate::fields::is_bad;
 use crate::fields::takes_job;
+use crate::naming::free_for;
+use crate::naming::slot_of;
+use crate::naming::with_turn;
 use jobs::Job;
 use jobs::Stepped;
-use jobs::is_free;
+use jobs::Turn;
 use rulebook::ABORT;
 use rulebook::ACK;
 use rulebook::BEGIN;
@@ -134,41 +142,98 @@ fn copy_event(
     }
 }
 
-// An event that a job takes part in.
+// An event that a job takes part in, but CRASH: what becomes of the job in its slot. `free` says, where LOCKX asks, that no job locks the copy.
 fn job_event(
-    jobs: [Job; JOBS],
+    job: Job,
+    free: bool,
     firsts: &[Serial],
     lasts: &[Serial],
     kinds: &[u32],
     values: &mut [Serial],
-    up: &mut [u32],
+    up: &[u32],
     out: &mut [Serial],
     event: Event,
-) -> Stepped
-    ensures { λ r. ⌜ ((ns rt rk rv gs : List ℕ) → upper.outcome r (tables (now (firsts .entry)) (now (lasts .entry)) (now (kinds .entry)) (now (values .exit)) ns rt rk rv gs (now (up .exit))) (now (out .exit))
-        ≡ jobEvent (tables (now (firsts .entry)) (now (lasts .entry)) (now (kinds .entry)) (now (values .entry)) ns rt rk rv gs (now (up .entry))) jobs (now (out .entry)) event) ⌝ }
+) -> Turn
+    ensures { λ r. ⌜ ((ns rt rk rv gs : List ℕ) (bs : List Job) → job ≡ jobAt bs (event .a) → upper.outcome (upper.turned bs (event .a) r) (tables (now (firsts .entry)) (now (lasts .entry)) (now (kinds .entry)) (now (values .exit)) ns rt rk rv gs (now (up .entry))) (now (out .exit))
+        ≡ jobTurn (tables (now (firsts .entry)) (now (lasts .entry)) (now (kinds .entry)) (now (values .entry)) ns rt rk rv gs (now (up .entry))) bs free (now (out .entry)) event) ⌝ }
 {
     let kind = event.kind;
     let a = event.a;
     let b = event.b;
     let c = event.c;
     match kind {
-        BEGIN => jobs::begin(jobs, up, a, b),
-        LOCKX => jobs::lock_exclusive(jobs, firsts, kinds, a, b),
-        LOCKS => jobs::lock_share(jobs, firsts, kinds, a, b),
-        DRAW => jobs::draw(jobs, firsts, lasts, values, a, b, c),
-        READ => Stepped {
-            answer: jobs::read(jobs, firsts, values, a, b),
-            jobs,
+        BEGIN => jobs::begin(job, up, a, b),
+        LOCKX => jobs::lock_exclusive(job, firsts, kinds, free, a, b),
+        LOCKS => jobs::lock_share(job, firsts, kinds, a, b),
+        DRAW => jobs::draw(job, firsts, lasts, values, a, b, c),
+        READ => Turn {
+            answer: jobs::read(job, firsts, values, a, b),
+            job,
         },
-        COMMIT => jobs::commit(jobs, lasts, values, out, a),
-        ABORT => jobs::abort(jobs, a),
-        CRASH => jobs::crash(jobs, up, a),
-        _ => Stepped {
+        COMMIT => jobs::commit(job, lasts, values, out, a),
+        ABORT => jobs::abort(job, a),
+        _ => Turn {
             answer: Answer::BadEvent,
-            jobs,
+            job,
         },
     }
+}
+
+// The step without the check on the one slot that an event may name, of any kind but CRASH, which closes many. `free` says, where the kind asks,
+// that no job locks the copy (`free_for`).
+pub fn turn_unchecked(
+    job: Job,
+    free: bool,
+    firsts: &mut [Serial],
+    lasts: &mut [Serial],
+    kinds: &mut [u32],
+    values: &mut [Serial],
+    sent: &mut [u32],
+    relto: &mut [u32],
+    relkind: &mut [u32],
+    relvalue: &mut [Serial],
+    received: &mut [u32],
+    up: &mut [u32],
+    out: &mut [Serial],
+    event: Event,
+) -> Turn
+    ensures { λ r. ⌜ ((bs : List Job) → job ≡ jobAt bs (slotOf event) → left (upper.turned bs (slotOf event) r) (tables (now (firsts .exit)) (now (lasts .exit)) (now (kinds .exit)) (now (values .exit)) (now (sent .exit)) (now (relto .exit)) (now (relkind .exit)) (now (relvalue .exit)) (now (received .exit)) (now (up .exit))) (now (out .exit))
+        ≡ uncheckedTurn (plant (tables (now (firsts .entry)) (now (lasts .entry)) (now (kinds .entry)) (now (values .entry)) (now (sent .entry)) (now (relto .entry)) (now (relkind .entry)) (now (relvalue .entry)) (now (received .entry)) (now (up .entry))) bs) free (now (out .entry)) event) ⌝ }
+{
+    if is_bad(event) {
+        let answer = Answer::BadEvent;
+        return Turn { answer, job };
+    }
+    if takes_job(event.kind) & ((event.a as usize) < JOBS) {
+        return job_event(job, free, firsts, lasts, kinds, values, up, out, event);
+    }
+    let answer = copy_event(
+        firsts,
+        lasts,
+        kinds,
+        values,
+        sent,
+        relto,
+        relkind,
+        relvalue,
+        received,
+        up,
+        free,
+        event,
+    );
+    Turn { answer, job }
+}
+
+// CRASH without the check.
+fn crash_event(jobs: [Job; JOBS], up: &mut [u32], event: Event) -> Stepped
+    ensures { λ r. ⌜ ((fs ls ks vs ns rt rk rv gs out : List ℕ) → eqb (event .kind) CRASH ≡ true → left r (tables fs ls ks vs ns rt rk rv gs (now (up .exit))) out
+        ≡ uncheckedStep (plant (tables fs ls ks vs ns rt rk rv gs (now (up .entry))) jobs) out event) ⌝ }
+{
+    if is_bad(event) {
+        let answer = Answer::BadEvent;
+        return Stepped { answer, jobs };
+    }
+    jobs::crash(jobs, up, event.a)
 }
 
 // The step without the check: in whole tables it is the step, and in others it still answers, as the calls of the layers do.
@@ -190,15 +255,14 @@ pub fn step_unchecked(
     ensures { λ r. ⌜ left r (tables (now (firsts .exit)) (now (lasts .exit)) (now (kinds .exit)) (now (values .exit)) (now (sent .exit)) (now (relto .exit)) (now (relkind .exit)) (now (relvalue .exit)) (now (received .exit)) (now (up .exit))) (now (out .exit))
         ≡ uncheckedStep (plant (tables (now (firsts .entry)) (now (lasts .entry)) (now (kinds .entry)) (now (values .entry)) (now (sent .entry)) (now (relto .entry)) (now (relkind .entry)) (now (relvalue .entry)) (now (received .entry)) (now (up .entry))) jobs) (now (out .entry)) event ⌝ }
 {
-    if is_bad(event) {
-        let answer = Answer::BadEvent;
-        return Stepped { answer, jobs };
+    if event.kind == CRASH {
+        return crash_event(jobs, up, event);
     }
-    if takes_job(event.kind) {
-        return job_event(jobs, firsts, lasts, kinds, values, up, out, event);
-    }
-    let free = is_free(jobs, event.a, event.b);
-    let answer = copy_event(
+    let at = slot_of(event);
+    let job = jobs[at];
+    let turn = turn_unchecked(
+        job,
+        free_for(jobs, job, event),
         firsts,
         lasts,
         kinds,
@@ -209,8 +273,8 @@ pub fn step_unchecked(
         relvalue,
         received,
         up,
-        free,
+        out,
         event,
     );
-    Stepped { answer, jobs }
+    with_turn(jobs, at, turn)
 }

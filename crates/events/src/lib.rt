@@ -2,5 +2,9 @@
 // known to be whole; it takes any tables all the same, and answers in any.
 mod dispatch;
 mod fields;
+mod naming;
 
 pub use dispatch::step_unchecked;
+pub use dispatch::turn_unchecked;
+pub use naming::free_for;
+pub use naming::slot_of;

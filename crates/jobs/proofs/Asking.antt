@@ -9,7 +9,7 @@ use borrow.Author.Tests.{eq-eqb, ne-eqb, leb-false}
 use Rattle.words.specs.Numbers.{stationCount, seriesCount, jobCount, exclusive}
 use Rattle.words.specs.Tests.{non, _and_, _or_}
 use Rattle.words.proofs.Laws.{non-and, flag-not}
-use Rattle.words.proofs.Guards.{or-call, or-left, or-right}
+use Rattle.words.proofs.Guards.{or-call, or-right}
 use Rattle.copies.specs.Tables.{tables}
 use Rattle.copies.specs.Calls.{read}
 use Rattle.copies.proofs.Reading.{read-open}
@@ -36,10 +36,10 @@ no-lock l own {r} {a} {v} p q e =
     sym (non-and a (eqb (own .mode) exclusive))
     ∙ or-call _ _ _ _ v (flag-not r a p) (flag-not (eqb (l .mode) exclusive) _ (ap (λ (x : Lock). eqb (x .mode) exclusive) q)) e
 
--- refusal 3 is not given: job and series
-pub good-lock : (j s : ℕ) → (leb jobCount j || leb seriesCount s) ≡ false → (j < jobCount) × (s < seriesCount)
-good-lock j s e = (leb-false _ _ (or-left _ _ e), leb-false _ _ (or-right (leb jobCount j) _ e))
+-- refusal 3 is not given: the series is one
+pub good-series : (j s : ℕ) → (leb jobCount j || leb seriesCount s) ≡ false → s < seriesCount
+good-series j s e = leb-false _ _ (or-right (leb jobCount j) _ e)
 
--- of BEGIN: job and station
-pub good-begin : (j n : ℕ) → (leb jobCount j || leb stationCount n) ≡ false → (j < jobCount) × (n < stationCount)
-good-begin j n e = (leb-false _ _ (or-left _ _ e), leb-false _ _ (or-right (leb jobCount j) _ e))
+-- of BEGIN: the station
+pub good-station : (j n : ℕ) → (leb jobCount j || leb stationCount n) ≡ false → n < stationCount
+good-station j n e = leb-false _ _ (or-right (leb jobCount j) _ e)

@@ -24,11 +24,10 @@ use Rattle.copies.proofs.Reading.{copy-good}
 use Rattle.jobs.specs.declared.Lock.{Lock}
 use Rattle.jobs.specs.declared.Job.{Job}
 use Rattle.jobs.specs.Job.{noLock, noJob, lockAt, isUsed}
-use Rattle.jobs.specs.Slots.{jobAt}
 use Rattle.jobs.specs.Whole.{W4differs}
 use Rattle.jobs.specs.Draws.{Draw, entryThere, drawsOn, drawsOf, committed, shown, fits}
 use Rattle.jobs.specs.Store.{Store, store, storeOne, storeFirst}
-use Rattle.jobs.specs.Calls.{stepped, outcome, commits}
+use Rattle.jobs.specs.Calls.{stepped, turn, turned, outcome, commits}
 use Rattle.jobs.proofs.Fitting.{Addable, value-there, Drawable, reflects-draw}
 
 -- ---- one copy raised
@@ -206,6 +205,6 @@ stored-whole b t out four fit =
     apart i k le lt d e = differs-earlier b i k (at i le d .1) lt (at k (omega arith) e .0 .1)
 
 -- COMMIT accepted: with the job's draws stored its slot is closed
-pub commit-stored : (bs : List Job) (j : ℕ) (b : Job) (t t′ : Copies) (out out′ : List ℕ) (r : ℕ) → b ≡ noJob → length (jobAt bs j .locks) ≡ lockCount → fits (t .lasts) (t .values) (jobAt bs j) ≡ true → store r t′ out′ ≡ storeFirst (jobAt bs j) lockCount (store 0 t out) → outcome (stepped (Done r) (set bs j b)) t′ out′ ≡ commits t bs out j (drawsOf t (jobAt bs j))
-commit-stored bs j b t t′ out out′ r e four fit p =
-    rw e (ap (λ (x : Store). outcome (stepped (Done (x .count)) (set bs j noJob)) (x .copies) (x .out)) (p ∙ stored-whole (jobAt bs j) t out four fit))
+pub commit-stored : (bs : List Job) (j : ℕ) (b b′ : Job) (t t′ : Copies) (out out′ : List ℕ) (r : ℕ) → b′ ≡ noJob → length (b .locks) ≡ lockCount → fits (t .lasts) (t .values) b ≡ true → store r t′ out′ ≡ storeFirst b lockCount (store 0 t out) → outcome (turned bs j (turn (Done r) b′)) t′ out′ ≡ commits t bs out j (drawsOf t b)
+commit-stored bs j b b′ t t′ out out′ r e four fit p =
+    rw e (ap (λ (x : Store). outcome (stepped (Done (x .count)) (set bs j noJob)) (x .copies) (x .out)) (p ∙ stored-whole b t out four fit))

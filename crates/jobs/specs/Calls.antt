@@ -16,14 +16,23 @@ use Rattle.copies.specs.Tables.{Copies, seriesAt, isOpen, isUp}
 use Rattle.copies.specs.Steps.{marked}
 use Rattle.copies.specs.Calls.{lacks, beyond}
 use Rattle.jobs.specs.declared.Job.{Job}
+use Rattle.jobs.specs.declared.Turn.{Turn}
 use Rattle.jobs.specs.declared.Stepped.{Stepped}
 use Rattle.jobs.specs.Job.{noJob, jobOpen, locksSeries, lockOn, isFull, begun, withLock, withDraw}
-use Rattle.jobs.specs.Slots.{jobAt, free, closedAt, countAt}
+use Rattle.jobs.specs.Slots.{jobAt, closedAt, countAt}
 use Rattle.jobs.specs.Draws.{Draw, entryThere, drawsOf, committed, shown, fits}
 
 -- an answer and the slots
 abbrev pub stepped : Answer → List Job → Stepped
 stepped a bs = record { answer = a; jobs = bs }
+
+-- an answer and one slot's job
+abbrev pub turn : Answer → Job → Turn
+turn a b = record { answer = a; job = b }
+
+-- an answer, and the slots with slot j as the turn leaves it
+abbrev pub turned : List Job → ℕ → Turn → Stepped
+turned bs j r = stepped (r .answer) (set bs j (r .job))
 
 -- refused with this answer, and the slots as they stood, where the test holds; else what follows
 abbrev pub refuse : List Job → Answer → Bool → Stepped → Stepped
@@ -57,12 +66,12 @@ lockIn t bs free j s mode =
     (refuse bs Locked (non free)
     (stored bs j (withLock (jobAt bs j) s mode))))))
 
--- 3 LOCKX
-unfoldable pub lockx : Copies → List Job → ℕ → ℕ → Stepped
-lockx t bs j s =
+-- 3 LOCKX, by whether the copy at the job's station is free
+unfoldable pub lockx : Copies → List Job → Bool → ℕ → ℕ → Stepped
+lockx t bs free j s =
     refuse bs Short (lacks seriesCount (t .firsts) or lacks placeCount (t .kinds))
     (refuse bs BadEvent (leb jobCount j or leb seriesCount s)
-    (lockIn t bs (free bs s (jobAt bs j .station)) j s exclusive))
+    (lockIn t bs free j s exclusive))
 
 -- 4 LOCKS
 unfoldable pub locks : Copies → List Job → ℕ → ℕ → Stepped

@@ -4,15 +4,17 @@ ghost use mathlib.Core.Bool.{true};
 ghost use mathlib.Core.List.{List};
 ghost use Prim.Native.Nat.{ℕ, _+_, _<_, _≤_};
 ghost use lib.ListN.{length};
-ghost use Rattle.words.specs.Numbers.{seriesCount, jobCount, lockCount, placeCount, outCount};
+ghost use Rattle.words.specs.Numbers.{seriesCount, lockCount, placeCount, outCount};
 ghost use Rattle.copies.specs.Tables.{tables};
 ghost use Rattle.jobs.specs.Draws.{drawFits, fits};
 ghost use Rattle.jobs.specs.Store.{store, storeOne, storeFirst};
-ghost use Rattle.jobs.specs.Calls.{outcome, commit, commitIn};
+ghost use Rattle.jobs.specs.declared.Job.{Job};
+ghost use Rattle.jobs.specs.Slots.{jobAt};
+ghost use Rattle.jobs.specs.Calls.{turned, outcome, commit, commitIn};
 use crate::Job;
 use crate::Lock;
-use crate::Stepped;
-use crate::slots::refused;
+use crate::Turn;
+use crate::turns::kept;
 use crate::walk::differs;
 use copies::beyond;
 use copies::raise;
@@ -93,49 +95,41 @@ fn store_all(job: Job, lasts: &[Serial], values: &mut [Serial], out: &mut [Seria
 }
 
 // COMMIT where refusals 1 and 3 are not given.
-fn commit_in(
-    jobs: [Job; JOBS],
-    lasts: &[Serial],
-    values: &mut [Serial],
-    out: &mut [Serial],
-    slot: u32,
-) -> Stepped
-    requires { ⌜ (seriesCount ≤ length (now lasts)) × (placeCount ≤ length (now values)) × (outCount ≤ length (now out)) × (slot < jobCount) ⌝ }
-    ensures { λ r. ⌜ ((fs ks ns rt rk rv gs us : List ℕ) → outcome r (tables fs (now (lasts .entry)) ks (now (values .exit)) ns rt rk rv gs us) (now (out .exit))
-        ≡ commitIn (tables fs (now (lasts .entry)) ks (now (values .entry)) ns rt rk rv gs us) jobs (now (out .entry)) slot) ⌝ }
+fn commit_in(job: Job, lasts: &[Serial], values: &mut [Serial], out: &mut [Serial]) -> Turn
+    requires { ⌜ (seriesCount ≤ length (now lasts)) × (placeCount ≤ length (now values)) × (outCount ≤ length (now out)) ⌝ }
+    ensures { λ r. ⌜ ((fs ks ns rt rk rv gs us : List ℕ) (bs : List Job) (j : ℕ) → job ≡ jobAt bs j → outcome (turned bs j r) (tables fs (now (lasts .entry)) ks (now (values .exit)) ns rt rk rv gs us) (now (out .exit))
+        ≡ commitIn (tables fs (now (lasts .entry)) ks (now (values .entry)) ns rt rk rv gs us) bs (now (out .entry)) j) ⌝ }
 {
-    let job = jobs[slot as usize];
     if !job.is_open() {
-        return refused(jobs, Answer::None);
+        return kept(job, Answer::None);
     }
     if !fits(job, lasts, values) {
-        return refused(jobs, Answer::NotWhole);
+        return kept(job, Answer::NotWhole);
     }
     let count = store_all(job, lasts, values, out);
-    let mut left = jobs;
-    left[slot as usize] = job.close();
-    Stepped {
+    let closed = job.close();
+    Turn {
         answer: Answer::Done(count as Serial),
-        jobs: left,
+        job: closed,
     }
 }
 
 // 7 COMMIT: each drawn count is added to the copy's value and shown in the output, and the job closes; the value is the number of draws.
 pub fn commit(
-    jobs: [Job; JOBS],
+    job: Job,
     lasts: &[Serial],
     values: &mut [Serial],
     out: &mut [Serial],
     slot: u32,
-) -> Stepped
-    ensures { λ r. ⌜ ((fs ks ns rt rk rv gs us : List ℕ) → outcome r (tables fs (now (lasts .entry)) ks (now (values .exit)) ns rt rk rv gs us) (now (out .exit))
-        ≡ commit (tables fs (now (lasts .entry)) ks (now (values .entry)) ns rt rk rv gs us) jobs (now (out .entry)) slot) ⌝ }
+) -> Turn
+    ensures { λ r. ⌜ ((fs ks ns rt rk rv gs us : List ℕ) (bs : List Job) → job ≡ jobAt bs slot → outcome (turned bs slot r) (tables fs (now (lasts .entry)) ks (now (values .exit)) ns rt rk rv gs us) (now (out .exit))
+        ≡ commit (tables fs (now (lasts .entry)) ks (now (values .entry)) ns rt rk rv gs us) bs (now (out .entry)) slot) ⌝ }
 {
     if (lasts.len() < SERIES) | (values.len() < PLACES) | (out.len() < OUTPUT) {
-        return refused(jobs, Answer::Short);
+        return kept(job, Answer::Short);
     }
     if JOBS <= slot as usize {
-        return refused(jobs, Answer::BadEvent);
+        return kept(job, Answer::BadEvent);
     }
-    commit_in(jobs, lasts, values, out, slot)
+    commit_in(job, lasts, values, out)
 }

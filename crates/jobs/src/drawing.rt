@@ -3,13 +3,15 @@ ghost use mathlib.Core.Path.{_≡_};
 ghost use mathlib.Core.List.{List};
 ghost use Prim.Native.Nat.{ℕ, _<_, _≤_};
 ghost use lib.ListN.{length};
-ghost use Rattle.words.specs.Numbers.{seriesCount, jobCount, placeCount};
+ghost use Rattle.words.specs.Numbers.{seriesCount, placeCount};
 ghost use Rattle.copies.specs.Tables.{tables};
-ghost use Rattle.jobs.specs.Calls.{draw, drawIn, read, readIn};
+ghost use Rattle.jobs.specs.declared.Job.{Job};
+ghost use Rattle.jobs.specs.Slots.{jobAt};
+ghost use Rattle.jobs.specs.Calls.{turned, draw, drawIn, read, readIn};
 use crate::Job;
-use crate::Stepped;
-use crate::slots::refused;
-use crate::slots::stored;
+use crate::Turn;
+use crate::turns::became;
+use crate::turns::kept;
 use copies::beyond;
 use copies::is_open;
 use copies::value;
@@ -23,57 +25,55 @@ use words::Serial;
 
 // DRAW where refusals 1 and 3 are not given.
 fn draw_in(
-    jobs: [Job; JOBS],
+    job: Job,
     firsts: &[Serial],
     lasts: &[Serial],
     values: &[Serial],
-    slot: u32,
     series: u32,
     count: Serial,
-) -> Stepped
-    requires { ⌜ (seriesCount ≤ length (now firsts)) × (slot < jobCount) × (series < seriesCount) ⌝ }
-    ensures { λ r. ⌜ ((ks ns rt rk rv gs us : List ℕ) → r ≡ drawIn (tables (now (firsts .entry)) (now (lasts .entry)) ks (now (values .entry)) ns rt rk rv gs us) jobs slot series count) ⌝ }
+) -> Turn
+    requires { ⌜ (seriesCount ≤ length (now firsts)) × (series < seriesCount) ⌝ }
+    ensures { λ r. ⌜ ((ks ns rt rk rv gs us : List ℕ) (bs : List Job) (j : ℕ) → job ≡ jobAt bs j → turned bs j r ≡ drawIn (tables (now (firsts .entry)) (now (lasts .entry)) ks (now (values .entry)) ns rt rk rv gs us) bs j series count) ⌝ }
 {
-    let job = jobs[slot as usize];
     if !is_open(firsts, series) | !job.is_open() {
-        return refused(jobs, Answer::None);
+        return kept(job, Answer::None);
     }
     let lock = job.lock_on(series);
     if !job.locks_series(series) | (lock.mode != EXCLUSIVE) {
-        return refused(jobs, Answer::NoLock);
+        return kept(job, Answer::NoLock);
     }
     if lock.drawn != 0 {
-        return refused(jobs, Answer::Drawn);
+        return kept(job, Answer::Drawn);
     }
     if beyond(lasts, values, series, job.station, count) {
-        return refused(jobs, Answer::Range);
+        return kept(job, Answer::Range);
     }
-    stored(jobs, slot, job.note_draw(series, count))
+    became(job.note_draw(series, count))
 }
 
 // 5 DRAW: notes the count.
 pub fn draw(
-    jobs: [Job; JOBS],
+    job: Job,
     firsts: &[Serial],
     lasts: &[Serial],
     values: &[Serial],
     slot: u32,
     series: u32,
     count: Serial,
-) -> Stepped
-    ensures { λ r. ⌜ ((ks ns rt rk rv gs us : List ℕ) → r ≡ draw (tables (now (firsts .entry)) (now (lasts .entry)) ks (now (values .entry)) ns rt rk rv gs us) jobs slot series count) ⌝ }
+) -> Turn
+    ensures { λ r. ⌜ ((ks ns rt rk rv gs us : List ℕ) (bs : List Job) → job ≡ jobAt bs slot → turned bs slot r ≡ draw (tables (now (firsts .entry)) (now (lasts .entry)) ks (now (values .entry)) ns rt rk rv gs us) bs slot series count) ⌝ }
 {
     if (firsts.len() < SERIES) | (lasts.len() < SERIES) | (values.len() < PLACES) {
-        return refused(jobs, Answer::Short);
+        return kept(job, Answer::Short);
     }
     if (JOBS <= slot as usize)
         | (SERIES <= series as usize)
         | (count == 0)
         | (GREATEST_SERIAL < count)
     {
-        return refused(jobs, Answer::BadEvent);
+        return kept(job, Answer::BadEvent);
     }
-    draw_in(jobs, firsts, lasts, values, slot, series, count)
+    draw_in(job, firsts, lasts, values, series, count)
 }
 
 // READ where refusals 1 and 3 are not given.
@@ -96,14 +96,8 @@ fn read_in(job: Job, firsts: &[Serial], values: &[Serial], series: u32) -> Answe
 }
 
 // 6 READ: the value of the station's copy and the job's own drawn count.
-pub fn read(
-    jobs: [Job; JOBS],
-    firsts: &[Serial],
-    values: &[Serial],
-    slot: u32,
-    series: u32,
-) -> Answer
-    ensures { λ r. ⌜ ((ls ks ns rt rk rv gs us : List ℕ) → r ≡ read (tables (now (firsts .entry)) ls ks (now (values .entry)) ns rt rk rv gs us) jobs slot series) ⌝ }
+pub fn read(job: Job, firsts: &[Serial], values: &[Serial], slot: u32, series: u32) -> Answer
+    ensures { λ r. ⌜ ((ls ks ns rt rk rv gs us : List ℕ) (bs : List Job) → job ≡ jobAt bs slot → r ≡ read (tables (now (firsts .entry)) ls ks (now (values .entry)) ns rt rk rv gs us) bs slot series) ⌝ }
 {
     if (firsts.len() < SERIES) | (values.len() < PLACES) {
         return Answer::Short;
@@ -111,5 +105,5 @@ pub fn read(
     if (JOBS <= slot as usize) | (SERIES <= series as usize) {
         return Answer::BadEvent;
     }
-    read_in(jobs[slot as usize], firsts, values, series)
+    read_in(job, firsts, values, series)
 }

@@ -9,6 +9,7 @@ mod drawing;
 mod locking;
 mod methods;
 mod slots;
+mod turns;
 mod walk;
 
 pub use committing::commit;
@@ -37,6 +38,12 @@ pub struct Job {
     pub mark: u32,
     pub station: u32,
     pub locks: [Lock; LOCKS],
+}
+
+// What a call over one slot gives back: its answer, and the slot's job.
+pub struct Turn {
+    pub answer: Answer,
+    pub job: Job,
 }
 
 // What a call over the sixteen slots gives back: its answer, and the slots.

@@ -3,14 +3,15 @@ ghost use mathlib.Core.Path.{_≡_};
 ghost use mathlib.Core.List.{List};
 ghost use Prim.Native.Nat.{ℕ, _<_, _≤_};
 ghost use lib.ListN.{length};
-ghost use Rattle.words.specs.Numbers.{seriesCount, jobCount, placeCount};
+ghost use Rattle.words.specs.Numbers.{seriesCount, placeCount};
 ghost use Rattle.copies.specs.Tables.{tables};
-ghost use Rattle.jobs.specs.Calls.{begin, lockIn, lockx, locks, abort};
+ghost use Rattle.jobs.specs.declared.Job.{Job};
+ghost use Rattle.jobs.specs.Slots.{jobAt};
+ghost use Rattle.jobs.specs.Calls.{turned, begin, lockIn, lockx, locks, abort};
 use crate::Job;
-use crate::Stepped;
-use crate::slots::is_free;
-use crate::slots::refused;
-use crate::slots::stored;
+use crate::Turn;
+use crate::turns::became;
+use crate::turns::kept;
 use copies::is_open;
 use copies::is_up;
 use copies::kind;
@@ -24,105 +25,89 @@ use words::STATIONS;
 use words::Serial;
 
 // 2 BEGIN: the job opens with no lock.
-pub fn begin(jobs: [Job; JOBS], up: &[u32], slot: u32, station: u32) -> Stepped
-    ensures { λ r. ⌜ ((fs ls ks vs ns rt rk rv gs : List ℕ) → r ≡ begin (tables fs ls ks vs ns rt rk rv gs (now (up .entry))) jobs slot station) ⌝ }
+pub fn begin(job: Job, up: &[u32], slot: u32, station: u32) -> Turn
+    ensures { λ r. ⌜ ((fs ls ks vs ns rt rk rv gs : List ℕ) (bs : List Job) → job ≡ jobAt bs slot → turned bs slot r ≡ begin (tables fs ls ks vs ns rt rk rv gs (now (up .entry))) bs slot station) ⌝ }
 {
     if up.len() < STATIONS {
-        return refused(jobs, Answer::Short);
+        return kept(job, Answer::Short);
     }
     if (JOBS <= slot as usize) | (STATIONS <= station as usize) {
-        return refused(jobs, Answer::BadEvent);
+        return kept(job, Answer::BadEvent);
     }
-    if jobs[slot as usize].is_open() {
-        return refused(jobs, Answer::Taken);
+    if job.is_open() {
+        return kept(job, Answer::Taken);
     }
     if !is_up(up, station) {
-        return refused(jobs, Answer::Down);
+        return kept(job, Answer::Down);
     }
-    stored(jobs, slot, Job::begun(station))
+    became(Job::begun(station))
 }
 
 // A lock where refusals 1 and 3 are not given: of the mode, on a copy of that kind.
-fn lock_in(
-    jobs: [Job; JOBS],
+fn lock_in(job: Job, firsts: &[Serial], kinds: &[u32], free: bool, series: u32, mode: u32) -> Turn
+    requires { ⌜ (seriesCount ≤ length (now firsts)) × (placeCount ≤ length (now kinds)) × (series < seriesCount) ⌝ }
+    ensures { λ r. ⌜ ((ls vs ns rt rk rv gs us : List ℕ) (bs : List Job) (j : ℕ) → job ≡ jobAt bs j → turned bs j r ≡ lockIn (tables (now (firsts .entry)) ls (now (kinds .entry)) vs ns rt rk rv gs us) bs free j series mode) ⌝ }
+{
+    if !is_open(firsts, series) | !job.is_open() {
+        return kept(job, Answer::None);
+    }
+    if job.locks_series(series) {
+        return kept(job, Answer::Held);
+    }
+    if job.is_full() {
+        return kept(job, Answer::Full);
+    }
+    if kind(kinds, series, job.station) != mode {
+        return kept(job, Answer::Copy);
+    }
+    if !free {
+        return kept(job, Answer::Locked);
+    }
+    became(job.add_lock(series, mode))
+}
+
+// 3 LOCKX: needs a free exclusive copy; whether it is free, the caller has asked of the sixteen slots (`is_free`).
+pub fn lock_exclusive(
+    job: Job,
     firsts: &[Serial],
     kinds: &[u32],
     free: bool,
     slot: u32,
     series: u32,
-    mode: u32,
-) -> Stepped
-    requires { ⌜ (seriesCount ≤ length (now firsts)) × (placeCount ≤ length (now kinds)) × (slot < jobCount) × (series < seriesCount) ⌝ }
-    ensures { λ r. ⌜ ((ls vs ns rt rk rv gs us : List ℕ) → r ≡ lockIn (tables (now (firsts .entry)) ls (now (kinds .entry)) vs ns rt rk rv gs us) jobs free slot series mode) ⌝ }
-{
-    let job = jobs[slot as usize];
-    if !is_open(firsts, series) | !job.is_open() {
-        return refused(jobs, Answer::None);
-    }
-    if job.locks_series(series) {
-        return refused(jobs, Answer::Held);
-    }
-    if job.is_full() {
-        return refused(jobs, Answer::Full);
-    }
-    if kind(kinds, series, job.station) != mode {
-        return refused(jobs, Answer::Copy);
-    }
-    if !free {
-        return refused(jobs, Answer::Locked);
-    }
-    stored(jobs, slot, job.add_lock(series, mode))
-}
-
-// 3 LOCKX: needs a free exclusive copy.
-pub fn lock_exclusive(
-    jobs: [Job; JOBS],
-    firsts: &[Serial],
-    kinds: &[u32],
-    slot: u32,
-    series: u32,
-) -> Stepped
-    ensures { λ r. ⌜ ((ls vs ns rt rk rv gs us : List ℕ) → r ≡ lockx (tables (now (firsts .entry)) ls (now (kinds .entry)) vs ns rt rk rv gs us) jobs slot series) ⌝ }
+) -> Turn
+    ensures { λ r. ⌜ ((ls vs ns rt rk rv gs us : List ℕ) (bs : List Job) → job ≡ jobAt bs slot → turned bs slot r ≡ lockx (tables (now (firsts .entry)) ls (now (kinds .entry)) vs ns rt rk rv gs us) bs free slot series) ⌝ }
 {
     if (firsts.len() < SERIES) | (kinds.len() < PLACES) {
-        return refused(jobs, Answer::Short);
+        return kept(job, Answer::Short);
     }
     if (JOBS <= slot as usize) | (SERIES <= series as usize) {
-        return refused(jobs, Answer::BadEvent);
+        return kept(job, Answer::BadEvent);
     }
-    let free = is_free(jobs, series, jobs[slot as usize].station);
-    lock_in(jobs, firsts, kinds, free, slot, series, EXCLUSIVE)
+    lock_in(job, firsts, kinds, free, series, EXCLUSIVE)
 }
 
 // 4 LOCKS: needs a share copy, which other jobs may lock too.
-pub fn lock_share(
-    jobs: [Job; JOBS],
-    firsts: &[Serial],
-    kinds: &[u32],
-    slot: u32,
-    series: u32,
-) -> Stepped
-    ensures { λ r. ⌜ ((ls vs ns rt rk rv gs us : List ℕ) → r ≡ locks (tables (now (firsts .entry)) ls (now (kinds .entry)) vs ns rt rk rv gs us) jobs slot series) ⌝ }
+pub fn lock_share(job: Job, firsts: &[Serial], kinds: &[u32], slot: u32, series: u32) -> Turn
+    ensures { λ r. ⌜ ((ls vs ns rt rk rv gs us : List ℕ) (bs : List Job) → job ≡ jobAt bs slot → turned bs slot r ≡ locks (tables (now (firsts .entry)) ls (now (kinds .entry)) vs ns rt rk rv gs us) bs slot series) ⌝ }
 {
     if (firsts.len() < SERIES) | (kinds.len() < PLACES) {
-        return refused(jobs, Answer::Short);
+        return kept(job, Answer::Short);
     }
     if (JOBS <= slot as usize) | (SERIES <= series as usize) {
-        return refused(jobs, Answer::BadEvent);
+        return kept(job, Answer::BadEvent);
     }
-    lock_in(jobs, firsts, kinds, true, slot, series, SHARE)
+    lock_in(job, firsts, kinds, true, series, SHARE)
 }
 
 // 8 ABORT: the job closes.
-pub fn abort(jobs: [Job; JOBS], slot: u32) -> Stepped
-    ensures { λ r. ⌜ r ≡ abort jobs slot ⌝ }
+pub fn abort(job: Job, slot: u32) -> Turn
+    ensures { λ r. ⌜ ((bs : List Job) → job ≡ jobAt bs slot → turned bs slot r ≡ abort bs slot) ⌝ }
 {
     if JOBS <= slot as usize {
-        return refused(jobs, Answer::BadEvent);
+        return kept(job, Answer::BadEvent);
     }
-    let job = jobs[slot as usize];
     if !job.is_open() {
-        return refused(jobs, Answer::None);
+        return kept(job, Answer::None);
     }
-    stored(jobs, slot, job.close())
+    became(job.close())
 }

@@ -1,38 +1,15 @@
 // The sixteen slots: whether a copy is free, and what a crash closes.
 ghost use mathlib.Core.Path.{_≡_};
 ghost use mathlib.Core.List.{List};
-ghost use Prim.Native.Nat.{ℕ, _<_};
-ghost use lib.ListN.{set};
-ghost use Rattle.words.specs.declared.Answer.the-variants.{Done};
+ghost use Prim.Native.Nat.{ℕ};
 ghost use Rattle.copies.specs.Tables.{tables};
-ghost use Rattle.words.specs.Numbers.{jobCount};
 ghost use Rattle.jobs.specs.Slots.{free, closedAt, countAt};
-ghost use Rattle.jobs.specs.Calls.{stepped, outcome, crash};
+ghost use Rattle.jobs.specs.Calls.{outcome, crash};
 use crate::Closed;
 use crate::Job;
 use crate::Stepped;
 use words::Answer;
 use words::JOBS;
-
-// Refused: the slots stay.
-pub fn refused(jobs: [Job; JOBS], answer: Answer) -> Stepped
-    ensures { λ r. ⌜ r ≡ stepped answer jobs ⌝ }
-{
-    Stepped { answer, jobs }
-}
-
-// A job stands in its slot, and the event is done with value 0.
-pub fn stored(jobs: [Job; JOBS], slot: u32, job: Job) -> Stepped
-    requires { ⌜ slot < jobCount ⌝ }
-    ensures { λ r. ⌜ r ≡ stepped (Done 0) (set jobs slot job) ⌝ }
-{
-    let mut all = jobs;
-    all[slot as usize] = job;
-    Stepped {
-        answer: Answer::Done(0),
-        jobs: all,
-    }
-}
 
 // Whether no job locks the copy of a series at a station.
 pub fn is_free(jobs: [Job; JOBS], series: u32, station: u32) -> bool
@@ -69,7 +46,7 @@ pub fn crash(jobs: [Job; JOBS], up: &mut [u32], station: u32) -> Stepped
 {
     let answer = copies::crash(up, station);
     if answer.code() != 0 {
-        return refused(jobs, answer);
+        return Stepped { answer, jobs };
     }
     let closed = close_station(jobs, station);
     let left = closed.jobs;

@@ -1,6 +1,7 @@
 -- `job_event` meets its contract: at each kind the call's own promise. Assumes nothing.
 use borrow.Author.Tests.{ne-eqb}
-use Rattle.events.specs.Unchecked.{jobEvent}
+use Rattle.jobs.proofs.OneSlot.{kept-slot}
+use Rattle.events.specs.Unchecked.{jobTurn}
 use Rattle.events.proofs.Slots.{slots-only, answer-only}
 use borrow.Author.Needs.{needs}
 use Rattle.events.proofs.dispatch.job_event.Statement.{statement}
@@ -27,63 +28,52 @@ commit-requires c κs = search needs
 abort-requires : tie.Need-abort-requires
 abort-requires c κs = search needs
 
-crash-requires : tie.Need-crash-requires
-crash-requires c κs = search needs
+returns : tie.Need-returns
+unfolding jobTurn
+returns c ns rt rk rv gs bs same = rw (c .before .match .keys1) (slots-only _ _ _ _ (c .begin .ensures _ _ _ _ _ _ _ _ _ bs same))
+
+returns-2 : tie.Need-returns-2
+unfolding jobTurn
+returns-2 c ns rt rk rv gs bs same = rw (c .before .match .keys2) (slots-only _ _ _ _ (c .lock-exclusive .ensures _ _ _ _ _ _ _ _ bs same))
+
+returns-3 : tie.Need-returns-3
+unfolding jobTurn
+returns-3 c ns rt rk rv gs bs same = rw (c .before .match .keys3) (slots-only _ _ _ _ (c .lock-share .ensures _ _ _ _ _ _ _ _ bs same))
 
 same-length : tie.Need-same-length
 same-length c = search needs
 
-returns : tie.Need-returns
-unfolding jobEvent
-returns c ns rt rk rv gs = rw (c .before .before .match .keys1) (slots-only _ _ _ _ (c .begin .ensures _ _ _ _ _ _ _ _ _))
-
-returns-2 : tie.Need-returns-2
-unfolding jobEvent
-returns-2 c ns rt rk rv gs = rw (c .before .match .keys2) (slots-only _ _ _ _ (c .lock-exclusive .ensures _ _ _ _ _ _ _ _))
-
-returns-3 : tie.Need-returns-3
-unfolding jobEvent
-returns-3 c ns rt rk rv gs = rw (c .before .match .keys3) (slots-only _ _ _ _ (c .lock-share .ensures _ _ _ _ _ _ _ _))
+returns-4 : tie.Need-returns-4
+unfolding jobTurn
+returns-4 c ns rt rk rv gs bs same = rw (c .before .before .match .keys4) (slots-only _ _ _ _ (c .draw .ensures _ _ _ _ _ _ _ bs same))
 
 same-length-2 : tie.Need-same-length-2
 same-length-2 c = search needs
 
-returns-4 : tie.Need-returns-4
-unfolding jobEvent
-returns-4 c ns rt rk rv gs = rw (c .before .before .match .keys4) (slots-only _ _ _ _ (c .draw .ensures _ _ _ _ _ _ _))
+returns-5 : tie.Need-returns-5
+unfolding jobTurn
+returns-5 c ns rt rk rv gs bs same =
+    rw (c .before .before .match .keys5, kept-slot bs _ _ same) (answer-only _ _ _ _ _ (c .read .ensures _ _ _ _ _ _ _ _ bs same))
 
 same-length-3 : tie.Need-same-length-3
 same-length-3 c = search needs
 
-returns-5 : tie.Need-returns-5
-unfolding jobEvent
-returns-5 c ns rt rk rv gs =
-    rw (c .before .before .match .keys5) (answer-only _ _ _ _ _ (c .read .ensures _ _ _ _ _ _ _ _))
-
 same-length-4 : tie.Need-same-length-4
 same-length-4 c = search needs
 
-same-length-5 : tie.Need-same-length-5
-same-length-5 c = search needs
-
 returns-6 : tie.Need-returns-6
-unfolding jobEvent
-returns-6 c ns rt rk rv gs = rw (c .before .before .before .before .before .before .before .match .keys6) (c .before .before .before .before .commit .ensures _ _ _ _ _ _ _ _)
+unfolding jobTurn
+returns-6 c ns rt rk rv gs bs same = rw (c .before .before .before .before .before .before .before .match .keys6) (c .before .before .before .before .commit .ensures _ _ _ _ _ _ _ _ bs same)
 
 returns-7 : tie.Need-returns-7
-unfolding jobEvent
-returns-7 c ns rt rk rv gs = rw (c .before .match .keys7) (slots-only _ _ _ _ (c .abort .ensures))
-
-same-length-6 : tie.Need-same-length-6
-same-length-6 c = search needs
+unfolding jobTurn
+returns-7 c ns rt rk rv gs bs same = rw (c .before .match .keys7) (slots-only _ _ _ _ (c .abort .ensures bs same))
 
 returns-8 : tie.Need-returns-8
-unfolding jobEvent
-returns-8 c ns rt rk rv gs = rw (c .before .before .before .before .match .keys8) (c .before .before .crash .ensures _ _ _ _ _ _ _ _ _ _)
-
-returns-9 : tie.Need-returns-9
-unfolding jobEvent
-returns-9 c ns rt rk rv gs = let r = c .match .rest in simp (ne-eqb _ _ (r .0 .0 .0 .0 .0 .0 .0 .1), ne-eqb _ _ (r .0 .0 .0 .0 .0 .0 .1), ne-eqb _ _ (r .0 .0 .0 .0 .0 .1), ne-eqb _ _ (r .0 .0 .0 .0 .1), ne-eqb _ _ (r .0 .0 .0 .1), ne-eqb _ _ (r .0 .0 .1), ne-eqb _ _ (r .0 .1), ne-eqb _ _ (r .1))
+unfolding jobTurn
+returns-8 c ns rt rk rv gs bs same =
+    let r = c .match .rest in
+    rw (kept-slot bs _ _ same) (simp (ne-eqb _ _ (r .0 .0 .0 .0 .0 .0 .1), ne-eqb _ _ (r .0 .0 .0 .0 .0 .1), ne-eqb _ _ (r .0 .0 .0 .0 .1), ne-eqb _ _ (r .0 .0 .0 .1), ne-eqb _ _ (r .0 .0 .1), ne-eqb _ _ (r .0 .1), ne-eqb _ _ (r .1)))
 
 pub job-event-spec : {M : Type 1} → statement M
 job-event-spec =
@@ -96,19 +86,15 @@ job-event-spec =
     read-requires
     commit-requires
     abort-requires
-    crash-requires
-    same-length
     returns
     returns-2
     returns-3
-    same-length-2
+    same-length
     returns-4
-    same-length-3
+    same-length-2
     returns-5
+    same-length-3
     same-length-4
-    same-length-5
     returns-6
     returns-7
-    same-length-6
-    returns-8
-    returns-9)
+    returns-8)

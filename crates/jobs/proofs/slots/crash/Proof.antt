@@ -10,16 +10,13 @@ crash-requires c κs = search needs
 code-requires : tie.Need-code-requires
 code-requires c κs = search needs
 
-refused-requires : tie.Need-refused-requires
-refused-requires c κs = search needs
-
 same-length : tie.Need-same-length
 same-length c = search needs
 
 returns : tie.Need-returns
 returns c fs ls ks vs ns rt rk rv gs out =
-    let d = c .before .before in
-    rw (c .refused .ensures) (crash-refused _ _ _ _ _ _ _ (d .before .before .before .crash .ensures fs ls ks vs ns rt rk rv gs) (d .code .ensures) (c .before .if1 .taken))
+    let d = c .before in
+    crash-refused _ _ _ _ _ _ _ (d .before .before .before .crash .ensures fs ls ks vs ns rt rk rv gs) (d .code .ensures) (c .if1 .taken)
 
 close-station-requires : tie.Need-close-station-requires
 close-station-requires c κs = search needs
@@ -38,7 +35,6 @@ crash-spec =
     (tie.spec
     crash-requires
     code-requires
-    refused-requires
     same-length
     returns
     close-station-requires
