@@ -7,7 +7,7 @@ use mathlib.Core.List.{List}
 use lib.Dec.{eqb, ltb, leb}
 use borrow.Author.Tests.{leb-true, not-true, not-false, eq-eqb, ne-eqb}
 use Rattle.words.specs.Numbers.{jobCount}
-use Rattle.words.specs.Tests.{non, _and_, _or_}
+use Rattle.words.specs.Tests.{non, _and_}
 use Rattle.words.proofs.Laws.{neither}
 use Rattle.jobs.specs.declared.Job.{Job}
 use Rattle.jobs.specs.Slots.{free}

@@ -229,11 +229,11 @@ fn crash_event(jobs: [Job; JOBS], up: &mut [u32], event: Event) -> Stepped
     ensures { λ r. ⌜ ((fs ls ks vs ns rt rk rv gs out : List ℕ) → eqb (event .kind) CRASH ≡ true → left r (tables fs ls ks vs ns rt rk rv gs (now (up .exit))) out
         ≡ uncheckedStep (plant (tables fs ls ks vs ns rt rk rv gs (now (up .entry))) jobs) out event) ⌝ }
 {
-    if is_bad(event) {
-        let answer = Answer::BadEvent;
-        return Stepped { answer, jobs };
+    if !is_bad(event) {
+        return jobs::crash(jobs, up, event.a);
     }
-    jobs::crash(jobs, up, event.a)
+    let answer = Answer::BadEvent;
+    Stepped { answer, jobs }
 }
 
 // The step without the check: in whole tables it is the step, and in others it still answers, as the calls of the layers do.

@@ -5,8 +5,12 @@ ghost use Rattle.words.specs.Tests.{oneIf};
 ghost use Rattle.copies.specs.Tables.{tables};
 ghost use Rattle.rulebook.specs.Tables.{plant};
 ghost use Rattle.gauge.specs.Accepted.{eventAt, eventCount, isAccepted, acceptedFrom};
+use events::free_for;
+use events::slot_of;
 use events::step_unchecked;
+use events::turn_unchecked;
 use jobs::Job;
+use rulebook::CRASH;
 use rulebook::Event;
 use words::Answer;
 use words::JOBS;
@@ -61,8 +65,34 @@ pub fn count_accepted(
     let mut count = 0;
     let mut slots = jobs;
     for i in 0..numbers.len() / EVENT_SIZE {
-        let stepped = step_unchecked(
-            slots,
+        let event = event_at(numbers, i);
+        if event.kind == CRASH {
+            let stepped = step_unchecked(
+                slots,
+                firsts,
+                lasts,
+                kinds,
+                values,
+                sent,
+                relto,
+                relkind,
+                relvalue,
+                received,
+                up,
+                out,
+                event,
+            );
+            let answer = stepped.answer;
+            slots = stepped.jobs;
+            count += counts_for(answer);
+            continue;
+        }
+        let at = slot_of(event);
+        let job = slots[at];
+        let free = free_for(slots, job, event);
+        let turn = turn_unchecked(
+            job,
+            free,
             firsts,
             lasts,
             kinds,
@@ -74,10 +104,11 @@ pub fn count_accepted(
             received,
             up,
             out,
-            event_at(numbers, i),
+            event,
         );
-        let answer = stepped.answer;
-        slots = stepped.jobs;
+        let answer = turn.answer;
+        let left = turn.job;
+        slots[at] = left;
         count += counts_for(answer);
     }
     count

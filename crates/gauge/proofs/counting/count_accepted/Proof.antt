@@ -3,9 +3,11 @@ use Prim.Native.Nat.{_-_, _≤_}
 use mathlib.Core.Path.{_≡_, refl, sym, _∙_}
 use native.Mathlib.Omega.{arith}
 use borrow.Author.Needs.{needs}
+use borrow.Author.Tests.{ne-eqb}
 use lib.ListN.{length}
 use Rattle.copies.specs.Tables.{tables}
 use Rattle.rulebook.specs.Tables.{plant}
+use Rattle.events.proofs.Ways.{step-stored}
 use Rattle.gauge.specs.Accepted.{eventCount, acceptedFrom}
 use Rattle.gauge.proofs.Totals.{total, total-first, total-next, total-last}
 use Rattle.gauge.proofs.counting.count_accepted.Statement.{statement}
@@ -34,24 +36,74 @@ counts-for-requires c κs = search needs
 
 add-count : tie.Need-add-count Inv-loop μ-loop
 add-count c =
-    let turn = c .before .before .before .before .before .before .before .before .before .before .before .before .before .before .before .before .before .before .before .before .before .before .before .before .before .before .before .before .before .before .before .before .before .before .before .before .before in
+    let turn = c .before .before .before .before .before .before .before .before .before .before .before .before .before .before .before .before .before .before .before .before .before .before .before .before .before .before .before .before .before .before .before .before .before .before .before .before .before .before .before in
     omega (arith, turn .loop-test .taken, turn .before .loop .inv .1, c .counts-for .ensures .1)
 
 add-i : tie.Need-add-i Inv-loop μ-loop
 add-i c =
-    let turn = c .before .before .before .before .before .before .before .before .before .before .before .before .before .before .before .before .before .before .before .before .before .before .before .before .before .before .before .before .before .before .before .before .before .before .before .before .before in
+    let turn = c .before .before .before .before .before .before .before .before .before .before .before .before .before .before .before .before .before .before .before .before .before .before .before .before .before .before .before .before .before .before .before .before .before .before .before .before .before .before .before in
     omega (arith, turn .loop-test .taken, turn .before .before .before .before .before .before .before .before .before .before .before .before .before .before .good .0 .0)
 
 loop-less : tie.Need-loop-less Inv-loop μ-loop
-loop-less c = omega (arith, c .before .before .before .before .before .before .before .before .before .before .before .before .before .before .before .before .before .before .before .before .before .before .before .before .before .before .before .before .before .before .before .before .before .before .before .before .before .loop-test .taken)
+loop-less c = omega (arith, c .before .before .before .before .before .before .before .before .before .before .before .before .before .before .before .before .before .before .before .before .before .before .before .before .before .before .before .before .before .before .before .before .before .before .before .before .before .before .before .loop-test .taken)
 
 loop-again : tie.Need-loop-again Inv-loop μ-loop
 loop-again c =
     let call = c .before .before .before .before .before .before .before .before .before .before .before .before .before .before .before .before .before .before .before .before .before .before .before .before in
-    let turn = call .before .before .before .before .before .before .before .before .before .before .before .before .before in
+    let read = call .before .before .before .before .before .before .before .before .before .before .before .before .before .before in
+    let turn = read .before in
     let l = turn .before .loop in
     let one = c .counts-for .ensures in
-    (total-next _ _ _ _ _ _ _ _ _ _ (turn .loop-test .taken) (call .before .event-at .ensures) (call .step-unchecked .ensures) (one .0) ∙ l .inv .0, omega (arith, l .inv .1, one .1), omega (arith, turn .loop-test .taken), call .step-unchecked .kept .1 .0 ∙ l .inv .3, call .step-unchecked .kept .1 .1 .0 ∙ l .inv .4, call .step-unchecked .kept .1 .1 .1 .0 ∙ l .inv .5, call .step-unchecked .kept .1 .1 .1 .1 .0 ∙ l .inv .6, call .step-unchecked .kept .1 .1 .1 .1 .1 .0 ∙ l .inv .7, call .step-unchecked .kept .1 .1 .1 .1 .1 .1 .0 ∙ l .inv .8, call .step-unchecked .kept .1 .1 .1 .1 .1 .1 .1 .0 ∙ l .inv .9, call .step-unchecked .kept .1 .1 .1 .1 .1 .1 .1 .1 .0 ∙ l .inv .10, call .step-unchecked .kept .1 .1 .1 .1 .1 .1 .1 .1 .1 .0 ∙ l .inv .11, call .step-unchecked .kept .1 .1 .1 .1 .1 .1 .1 .1 .1 .1 .0 ∙ l .inv .12, call .step-unchecked .kept .1 .1 .1 .1 .1 .1 .1 .1 .1 .1 .1 .0 ∙ l .inv .13)
+    (total-next _ _ _ _ _ _ _ _ _ _ (turn .loop-test .taken) (read .event-at .ensures) (call .step-unchecked .ensures) (one .0) ∙ l .inv .0, omega (arith, l .inv .1, one .1), omega (arith, turn .loop-test .taken), call .step-unchecked .kept .1 .0 ∙ l .inv .3, call .step-unchecked .kept .1 .1 .0 ∙ l .inv .4, call .step-unchecked .kept .1 .1 .1 .0 ∙ l .inv .5, call .step-unchecked .kept .1 .1 .1 .1 .0 ∙ l .inv .6, call .step-unchecked .kept .1 .1 .1 .1 .1 .0 ∙ l .inv .7, call .step-unchecked .kept .1 .1 .1 .1 .1 .1 .0 ∙ l .inv .8, call .step-unchecked .kept .1 .1 .1 .1 .1 .1 .1 .0 ∙ l .inv .9, call .step-unchecked .kept .1 .1 .1 .1 .1 .1 .1 .1 .0 ∙ l .inv .10, call .step-unchecked .kept .1 .1 .1 .1 .1 .1 .1 .1 .1 .0 ∙ l .inv .11, call .step-unchecked .kept .1 .1 .1 .1 .1 .1 .1 .1 .1 .1 .0 ∙ l .inv .12, call .step-unchecked .kept .1 .1 .1 .1 .1 .1 .1 .1 .1 .1 .1 .0 ∙ l .inv .13)
+
+slot-of-requires : tie.Need-slot-of-requires Inv-loop μ-loop
+slot-of-requires c κs = search needs
+
+mul-job : tie.Need-mul-job Inv-loop μ-loop
+mul-job c = search needs
+
+array-copy-out-job : tie.Need-array-copy-out-job Inv-loop μ-loop
+array-copy-out-job c = search needs
+
+free-for-requires : tie.Need-free-for-requires Inv-loop μ-loop
+free-for-requires c κs = search needs
+
+turn-unchecked-requires : tie.Need-turn-unchecked-requires Inv-loop μ-loop
+turn-unchecked-requires c κs = search needs
+
+mul-slots : tie.Need-mul-slots Inv-loop μ-loop
+mul-slots c = omega (arith, c .before .before .before .before .before .before .before .before .before .before .before .before .before .before .before .before .before .before .before .before .before .before .before .before .before .before .before .before .before .before .before .before .before .before .before .before .before .slot-of .ensures .1)
+
+array-set-from-slots : tie.Need-array-set-from-slots Inv-loop μ-loop
+array-set-from-slots c = c .before .before .before .before .before .before .before .before .before .before .before .before .before .before .before .before .before .before .before .before .before .before .before .before .before .before .before .before .before .before .before .before .before .before .before .before .before .slot-of .ensures .1
+
+counts-for-requires-2 : tie.Need-counts-for-requires-2 Inv-loop μ-loop
+counts-for-requires-2 c κs = search needs
+
+add-count-2 : tie.Need-add-count-2 Inv-loop μ-loop
+add-count-2 c =
+    let turn = c .before .before .before .before .before .before .before .before .before .before .before .before .before .before .before .before .before .before .before .before .before .before .before .before .before .before .before .before .before .before .before .before .before .before .before .before .before .before .before .before .before .before in
+    omega (arith, turn .loop-test .taken, turn .before .loop .inv .1, c .counts-for2 .ensures .1)
+
+add-i-2 : tie.Need-add-i-2 Inv-loop μ-loop
+add-i-2 c =
+    let turn = c .before .before .before .before .before .before .before .before .before .before .before .before .before .before .before .before .before .before .before .before .before .before .before .before .before .before .before .before .before .before .before .before .before .before .before .before .before .before .before .before .before .before in
+    omega (arith, turn .loop-test .taken, turn .before .before .before .before .before .before .before .before .before .before .before .before .before .before .good .0 .0)
+
+loop-less-2 : tie.Need-loop-less-2 Inv-loop μ-loop
+loop-less-2 c = omega (arith, c .before .before .before .before .before .before .before .before .before .before .before .before .before .before .before .before .before .before .before .before .before .before .before .before .before .before .before .before .before .before .before .before .before .before .before .before .before .before .before .before .before .before .loop-test .taken)
+
+loop-again-2 : tie.Need-loop-again-2 Inv-loop μ-loop
+loop-again-2 c =
+    let call = c .before .before .before .before .before .before .before .before .before .before .before .before .before .before .before .before .before .before .before .before .before .before .before .before in
+    let asked = call .before .before .before .before .before .before .before .before .before .before .before .before in
+    let named = asked .before .before in
+    let read = named .before .before .before in
+    let turn = read .before in
+    let l = turn .before .loop in
+    let one = c .counts-for2 .ensures in
+    let step = step-stored _ _ _ _ _ _ _ _ _ _ (named .slot-of .ensures .0) (asked .free-for .ensures) (ne-eqb _ _ (named .before .if1 .left)) (λ here. call .turn-unchecked .ensures _ here) refl in
+    (total-next _ _ _ _ _ _ _ _ _ _ (turn .loop-test .taken) (read .event-at .ensures) step (one .0) ∙ l .inv .0, omega (arith, l .inv .1, one .1), omega (arith, turn .loop-test .taken), call .turn-unchecked .kept .1 .1 .0 ∙ l .inv .3, call .turn-unchecked .kept .1 .1 .1 .0 ∙ l .inv .4, call .turn-unchecked .kept .1 .1 .1 .1 .0 ∙ l .inv .5, call .turn-unchecked .kept .1 .1 .1 .1 .1 .0 ∙ l .inv .6, call .turn-unchecked .kept .1 .1 .1 .1 .1 .1 .0 ∙ l .inv .7, call .turn-unchecked .kept .1 .1 .1 .1 .1 .1 .1 .0 ∙ l .inv .8, call .turn-unchecked .kept .1 .1 .1 .1 .1 .1 .1 .1 .0 ∙ l .inv .9, call .turn-unchecked .kept .1 .1 .1 .1 .1 .1 .1 .1 .1 .0 ∙ l .inv .10, call .turn-unchecked .kept .1 .1 .1 .1 .1 .1 .1 .1 .1 .1 .0 ∙ l .inv .11, call .turn-unchecked .kept .1 .1 .1 .1 .1 .1 .1 .1 .1 .1 .1 .0 ∙ l .inv .12, call .turn-unchecked .kept .1 .1 .1 .1 .1 .1 .1 .1 .1 .1 .1 .1 .0 ∙ l .inv .13)
 
 same-length : tie.Need-same-length Inv-loop μ-loop
 same-length c = c .before .loop .inv .3
@@ -103,6 +155,18 @@ count-accepted-spec =
     add-i
     loop-less
     loop-again
+    slot-of-requires
+    mul-job
+    array-copy-out-job
+    free-for-requires
+    turn-unchecked-requires
+    mul-slots
+    array-set-from-slots
+    counts-for-requires-2
+    add-count-2
+    add-i-2
+    loop-less-2
+    loop-again-2
     same-length
     same-length-2
     same-length-3
