@@ -6,3 +6,4 @@ pub mod JobEvents
 pub mod Unchecked
 pub mod Named
 pub mod Ways
+pub mod Once

@@ -8,3 +8,4 @@ pub mod Unbroken
 pub mod Ways
 pub mod Fitting
 pub mod Stored
+pub mod Once

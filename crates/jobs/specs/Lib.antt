@@ -6,3 +6,4 @@ pub mod Facts
 pub mod Draws
 pub mod Store
 pub mod Calls
+pub mod Once
