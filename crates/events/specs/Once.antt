@@ -8,19 +8,13 @@ use mathlib.Core.List.{List}
 use Rattle.words.specs.Results.{OneResult}
 use Rattle.copies.specs.Tables.{Copies}
 use Rattle.jobs.specs.declared.Job.{Job}
-use Rattle.jobs.specs.declared.Turn.{Turn}
 use Rattle.jobs.specs.Slots.{jobAt}
 use Rattle.jobs.specs.Calls.{turned}
+use Rattle.jobs.specs.Once.{Taken}
 use Rattle.rulebook.specs.declared.Event.{Event}
 use Rattle.rulebook.specs.Tables.{plant}
 use Rattle.events.specs.Calls.{left}
 use Rattle.events.specs.Unchecked.{slotOf, uncheckedTurn}
-
--- What a turn gives back and leaves.
-pub record Taken : Type 0 where
-  pub turn : Turn
-  pub copies : Copies
-  pub out : List ℕ
 
 -- THE STATEMENT
 abbrev pub TurnOnce : Type 0

@@ -91,7 +91,8 @@ called p out e =
 unfoldable pub uncheckedStep : Plant → List ℕ → Event → Outcome
 uncheckedStep p out e = refuseIf (BAD-EVENT p e) (record { answer = BadEvent; plant = p; out = out }) (called p out e)
 
--- the same of any kind but CRASH, which closes many jobs; `free` says, where the kind asks, that no job locks the copy
+-- the same over one slot, of any kind but CRASH, which closes many jobs and gets BAD EVENT here; `free` says, where the kind asks, that no job locks
+-- the copy
 unfoldable pub uncheckedTurn : Plant → Bool → List ℕ → Event → Outcome
 uncheckedTurn p free out e =
     refuseIf (BAD-EVENT p e) (record { answer = BadEvent; plant = p; out = out })

@@ -179,8 +179,8 @@ fn job_event(
     }
 }
 
-// The step without the check on the one slot that an event may name, of any kind but CRASH, which closes many. `free` says, where the kind asks,
-// that no job locks the copy (`free_for`).
+// The step without the check on the one slot that an event may name (`slot_of`), of any kind but CRASH, which closes many jobs and gets BAD EVENT
+// here. `free` says, where the kind asks, that no job locks the copy (`free_for`).
 pub fn turn_unchecked(
     job: Job,
     free: bool,
