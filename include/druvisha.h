@@ -2,7 +2,7 @@
  *
  * The machine keeps no memory of its own. A caller lends it the plant's tables, and an event; it answers, and the tables are those afterwards. Each
  * call takes any tables and any event, and gives an answer: whoever calls need not check anything first. Every refusal has value 0 and leaves the
- * tables and the output as they stood. That each call does exactly this is proved (docs/STATEMENTS.md, crates/abi/).
+ * tables and the output as they stood. That each call does exactly this is proved (README.md, "What is proved"; crates/abi/).
  *
  * `rt staticlib abi` makes the archive, target/staticlib/libabi.a (x86-64 Linux). It needs no other library:
  *

@@ -52,14 +52,18 @@ fn any_station(random: &mut Random) -> usize {
     random.below(STATIONS as u64) as usize
 }
 
+/// One of so many, once in `rarely` any, and else one of which the test holds.
+fn mostly(random: &mut Random, rarely: u64, size: usize, test: impl Fn(usize) -> bool) -> usize {
+    if random.one_in(rarely) {
+        return random.below(size as u64) as usize;
+    }
+    let choices: Vec<usize> = (0..size).filter(|&index| test(index)).collect();
+    random.pick(&choices).unwrap_or(0)
+}
+
 /// Mostly one that is open.
 fn any_series(random: &mut Random, machine: &Machine) -> usize {
-    let open = |&series: &usize| machine.series_open(series);
-    let choices: Vec<usize> = (0..SERIES).filter(open).collect();
-    if random.one_in(16) {
-        return random.below(SERIES as u64) as usize;
-    }
-    random.pick(&choices).unwrap_or(0)
+    mostly(random, 16, SERIES, |series| machine.series_open(series))
 }
 
 fn any_copy(random: &mut Random, machine: &Machine) -> usize {
@@ -68,12 +72,7 @@ fn any_copy(random: &mut Random, machine: &Machine) -> usize {
 
 /// Mostly one that is open.
 fn any_job(random: &mut Random, machine: &Machine) -> usize {
-    let open = |&job: &usize| machine.job_open(job);
-    let choices: Vec<usize> = (0..JOBS).filter(open).collect();
-    if random.one_in(6) {
-        return random.below(JOBS as u64) as usize;
-    }
-    random.pick(&choices).unwrap_or(0)
+    mostly(random, 6, JOBS, |job| machine.job_open(job))
 }
 
 /// Mostly a used place of the job, or the one after.
