@@ -22,13 +22,13 @@ use Rattle.rulebook.specs.declared.Event.{Event}
 use Rattle.rulebook.specs.Run.{Machine, Run, fromEmpty}
 use Rattle.rulebook.proofs.Walked.{wholeWalked, whole-walked, effectWalked, same-machine}
 use Rattle.rulebook.proofs.Computes.{computes}
-use Rattle.serials.specs.Draws.{Drawn, drawsIn, drawsShown, countIn, Belongs}
-use Rattle.serials.specs.Serials.{Serials, seriesAfter, OpenOnce, OnlyOpen}
+use Rattle.serials.specs.Draws.{Drawn, drawsIn, drawsShown, drawsAfter, countIn, Belongs}
+use Rattle.serials.specs.Serials.{Serials, seriesAfter, EachOnce, OpenOnce, OnlyOpen}
 use Rattle.serials.specs.Reads.{Reads, readOf}
 use Rattle.serials.specs.StaysWhole.{StaysWhole}
 use Rattle.serials.specs.NothingLost.{NothingLost, TokenKept, Deliverable, message}
-use Rattle.wrong.specs.Tried.{reads, twoJobs, comesAgain, ownDraw, drawnThere, shareUnderWay, crashes, onlyShare, backBeforeAck, shareBack}
-use Rattle.wrong.specs.Machines.{instead, voidReleased, commitUnstored, grantByToken, readWithoutOwn, readAtZero, promoteEarly, crashKeepsJobs, dropLast, restartVoids}
+use Rattle.wrong.specs.Tried.{reads, twoJobs, drawnAfterCrash, twoDraws, drawnInVain, comesAgain, ownDraw, drawnThere, shareUnderWay, crashes, onlyShare, backBeforeAck, shareBack}
+use Rattle.wrong.specs.Machines.{instead, changedAt, commitUnstored, commitFirstOnly, drawHandsOut, restartFromMemory, grantByToken, readWithoutOwn, readAtZero, promoteEarly, crashKeepsJobs, dropLast, restartVoids}
 use Rattle.serials.specs.RuledOut.{RulesOut, RuledOut}
 
 -- what is false of the machine that antt can compute, with a change, is false of the rulebook's with that change
@@ -53,6 +53,85 @@ issued-twice x shown holds =
     let once = rw shown at (holds .0 0 (omega arith) (opened 0 (omega arith) .1)) in
     let same = once .2 .once 1 0 0 1 0 (in-both 0 (omega arith)) (in-both 1 (omega arith)) in
     omega (arith, same .0)
+
+-- COMMIT after a crash: serial 1 is drawn again
+restored-computed : drawsShown (fromEmpty (restartFromMemory effectWalked) drawnAfterCrash .replies) ≡ (serialOne ∷ serialOne ∷ [])
+unfolding computes instead changedAt drawsIn drawsShown drawnAfterCrash
+restored-computed = refl
+
+-- RESTART from memory is ruled out
+no-memory : RulesOut Serials restartFromMemory
+no-memory =
+    by-walking Serials restartFromMemory
+    (λ holds. issued-twice (fromEmpty (restartFromMemory effectWalked) drawnAfterCrash) restored-computed (holds drawnAfterCrash))
+
+-- the series begins at 1, and its copy at station 0 is held with value v
+unfoldable heldWith : ℕ → Series → Bool
+heldWith v r = isOpen r and eqb (r .first) 1 and held r 0 and eqb (value r 0) v
+
+-- the same as facts of the series
+held-facts : (v : ℕ) (r : Series) → heldWith v r ≡ true → ((Open r × (r .first ≡ 1)) × Held r 0) × (value r 0 ≡ v)
+unfolding heldWith
+held-facts v r =
+    reflects-and _ _ (reflects-and _ _ (reflects-and _ _ (reflects-not _ (reflects-eq _ _)) (reflects-eq _ _)) (held-reflects r 0))
+    (reflects-eq _ _)
+    .0
+
+-- then the serials from 1 to just before v are each in one draw, and no other
+each-once-below : (v : ℕ) (x : Run) → heldWith v (seriesAfter x 0) ≡ true → OpenOnce x → EachOnce (drawsAfter x) 0 1 v
+each-once-below v x computed once =
+    let facts = held-facts v (seriesAfter x 0) computed in
+    let told = once 0 (omega arith) (facts .0 .0 .0) in
+    let next = sym (told .1 .ofCopies 0 (omega arith) (facts .0 .1)) ∙ facts .1 in
+    subst (λ (first : ℕ). EachOnce (drawsAfter x) 0 first v) (facts .0 .0 .1)
+    (subst (λ (n : ℕ). EachOnce (drawsAfter x) 0 (seriesAfter x 0 .first) n) next (told .2))
+
+-- two draws of serial 1, of series 1 and of series 0; the copy of series 0 is not raised
+abbrev firstDraws : List Drawn
+firstDraws = record { series = 1; first = 1; count = 1 } ∷ serialOne ∷ []
+
+first-computed : drawsShown (fromEmpty (commitFirstOnly effectWalked) twoDraws .replies) ≡ firstDraws
+unfolding computes instead drawsIn drawsShown twoDraws
+first-computed = refl
+
+unraised-computed : heldWith 1 (seriesAfter (fromEmpty (commitFirstOnly effectWalked) twoDraws) 0) ≡ true
+unfolding computes instead heldWith twoDraws
+unraised-computed = refl
+
+-- then serial 1 is in a draw and yet is the next number
+drawn-and-next : (x : Run) → drawsShown (x .replies) ≡ firstDraws → heldWith 1 (seriesAfter x 0) ≡ true → OpenOnce x → ⊥
+drawn-and-next x shown computed once =
+    let each = rw shown at (each-once-below 1 x computed once) in
+    let other = each .noOther 1 1 0 (record { isDraw = omega arith; ofSeries = refl; isPlace = omega arith; stands = refl }) in
+    omega (arith, other .1)
+
+-- COMMIT of the first draw alone is ruled out
+no-first-only : RulesOut Serials commitFirstOnly
+no-first-only =
+    by-walking Serials commitFirstOnly
+    (λ holds. drawn-and-next (fromEmpty (commitFirstOnly effectWalked) twoDraws) first-computed unraised-computed (holds twoDraws .0))
+
+-- the copy is raised, and no draw is shown
+none-computed : drawsShown (fromEmpty (drawHandsOut effectWalked) drawnInVain .replies) ≡ []
+unfolding computes instead drawsIn drawsShown drawnInVain
+none-computed = refl
+
+raised-computed : heldWith 2 (seriesAfter (fromEmpty (drawHandsOut effectWalked) drawnInVain) 0) ≡ true
+unfolding computes instead heldWith drawnInVain
+raised-computed = refl
+
+-- then serial 1 is gone and in no draw
+in-no-draw : (x : Run) → drawsShown (x .replies) ≡ [] → heldWith 2 (seriesAfter x 0) ≡ true → OpenOnce x → ⊥
+in-no-draw x shown computed once =
+    let each = rw shown at (each-once-below 2 x computed once) in
+    let place = each .belongs 1 (omega arith) (omega arith) in
+    omega (arith, place .2 .isDraw)
+
+-- DRAW that hands out is ruled out
+no-early-serials : RulesOut Serials drawHandsOut
+no-early-serials =
+    by-walking Serials drawHandsOut
+    (λ holds. in-no-draw (fromEmpty (drawHandsOut effectWalked) drawnInVain) none-computed raised-computed (holds drawnInVain .0))
 
 -- the series is open, and the copies at stations 0 and 1 are held with different values
 unfoldable twoValues : Series → Bool
@@ -180,7 +259,7 @@ no-last-drop =
 
 -- no token is left
 restart-computed : isLost (seriesAfter (fromEmpty (restartVoids effectWalked) backBeforeAck) 0) ≡ true
-unfolding computes instead voidReleased backBeforeAck isLost
+unfolding computes instead changedAt backBeforeAck isLost
 restart-computed = refl
 
 -- RESTART that voids by the Releases is ruled out
@@ -220,4 +299,4 @@ no-share-lost =
 -- each statement rules out its machines
 pub ruled-out : RuledOut
 ruled-out =
-    ((no-unstored, no-second-arrival), (no-read-without, no-read-elsewhere), (no-early-promote, no-jobs-kept), (no-last-drop, no-voiding-restart, no-share-lost))
+    ((no-unstored, no-first-only, no-early-serials, no-memory, no-second-arrival), (no-read-without, no-read-elsewhere), (no-early-promote, no-jobs-kept), (no-last-drop, no-voiding-restart, no-share-lost))

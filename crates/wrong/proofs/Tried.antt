@@ -4,19 +4,18 @@
 use Prim.Native.Nat.{ℕ}
 use mathlib.Core.Path.{_≡_, refl, sym, ap, _∙_}
 use mathlib.Core.Bool.{Bool, true, false, true≢false}
-use mathlib.Core.List.{List, [], _∷_, _++_}
+use mathlib.Core.List.{List, [], _∷_}
 use lib.Dec.{eqb}
 use borrow.Author.Tests.{eqb-true}
 use Rattle.words.specs.Tests.{_and_}
 use Rattle.words.proofs.Laws.{both-true}
 use Rattle.rulebook.specs.declared.Event.{Event}
-use Rattle.rulebook.specs.Events.{RESTART}
-use Rattle.rulebook.specs.Edges.{event, linesOf}
+use Rattle.rulebook.specs.Edges.{linesOf}
 use Rattle.rulebook.specs.Run.{Machine, fromEmpty}
 use Rattle.rulebook.proofs.Walked.{effectWalked, same-machine}
 use Rattle.rulebook.proofs.Computes.{computes}
-use Rattle.wrong.specs.Machines.{instead, voidReleased}
-use Rattle.wrong.specs.Tried.{arrives, reads, locks, twoJobs, comesAgain, ownDraw, drawnThere, shareUnderWay, crashes, onlyShare, backBeforeAck, shareBack, changed, Gives, SerialsTried, ReadsTried, WholeTried, NothingLostTried, TriesRight}
+use Rattle.wrong.specs.Machines.{instead, changedAt}
+use Rattle.wrong.specs.Tried.{twoJobs, twoDraws, drawnInVain, drawnAfterCrash, comesAgain, ownDraw, drawnThere, shareUnderWay, crashes, onlyShare, backBeforeAck, shareBack, Try, Right, twoJobsTried, twoDrawsTried, drawnInVainTried, drawnAfterCrashTried, comesAgainTried, ownDrawTried, drawnThereTried, shareUnderWayTried, crashesTried, onlyShareTried, backBeforeAckTried, shareBackTried, TriesRight}
 
 -- ---- equality as a test, so that a difference is told at once
 -- two lists have the same entries, as the test of entries says
@@ -36,34 +35,77 @@ same-list same is (x ∷ a) (y ∷ b) e =
     let two = both-true (same x y) (sameList same a b) e in λ i. is x y (two .0) i ∷ same-list same is a b (two .1) i
 
 -- the machine that antt can compute gives these answers, as a test
-abbrev answers : List Event → List (List ℕ) → Bool
-answers es lines = sameList (sameList eqb) (linesOf (fromEmpty (changed effectWalked) es)) lines
+abbrev answered : Try → Bool
+answered x = sameList (sameList eqb) (linesOf (fromEmpty (x .change effectWalked) (x .events))) (x .lines)
 
 -- then the machine gives them
-by-walking : (es : List Event) (lines : List (List ℕ)) → answers es lines ≡ true → Gives es lines
-by-walking es lines e = ap (λ (m : Machine). linesOf (fromEmpty (changed m) es)) same-machine ∙ same-list (sameList eqb) (same-list eqb eqb-true) _ lines e
+by-walking : (x : Try) → answered x ≡ true → Right x
+by-walking x e =
+    ap (λ (m : Machine). linesOf (fromEmpty (x .change m) (x .events))) same-machine
+    ∙ same-list (sameList eqb) (same-list eqb eqb-true) _ (x .lines) e
 
 -- ---- list by list
-serials-tried : SerialsTried
-unfolding computes instead sameList twoJobs comesAgain
-serials-tried = (by-walking twoJobs _ refl, by-walking comesAgain _ refl)
+two-jobs : Right twoJobsTried
+unfolding computes instead changedAt sameList twoJobs twoJobsTried
+two-jobs = by-walking twoJobsTried refl
 
-reads-tried : ReadsTried
-unfolding computes instead sameList ownDraw drawnThere
-reads-tried = (by-walking (ownDraw ++ reads ∷ []) _ refl, by-walking (drawnThere ++ reads ∷ []) _ refl)
+two-draws : Right twoDrawsTried
+unfolding computes instead changedAt sameList twoDraws twoDrawsTried
+two-draws = by-walking twoDrawsTried refl
 
-whole-tried : WholeTried
-unfolding computes instead sameList shareUnderWay crashes
-whole-tried = (by-walking shareUnderWay _ refl, by-walking (crashes ++ event RESTART 0 0 0 0 ∷ []) _ refl)
+drawn-in-vain : Right drawnInVainTried
+unfolding computes instead changedAt sameList drawnInVain drawnInVainTried
+drawn-in-vain = by-walking drawnInVainTried refl
 
-nothing-lost-tried : NothingLostTried
-unfolding computes instead voidReleased sameList onlyShare backBeforeAck shareBack
-nothing-lost-tried = (
-  by-walking onlyShare _ refl,
-  by-walking (backBeforeAck ++ locks 0 []) _ refl,
-  by-walking (shareBack ++ arrives 1 0 1 ∷ []) _ refl,
-)
+drawn-after-crash : Right drawnAfterCrashTried
+unfolding computes instead changedAt sameList drawnAfterCrash drawnAfterCrashTried
+drawn-after-crash = by-walking drawnAfterCrashTried refl
+
+comes-again : Right comesAgainTried
+unfolding computes instead changedAt sameList comesAgain comesAgainTried
+comes-again = by-walking comesAgainTried refl
+
+own-draw : Right ownDrawTried
+unfolding computes instead changedAt sameList ownDraw ownDrawTried
+own-draw = by-walking ownDrawTried refl
+
+drawn-there : Right drawnThereTried
+unfolding computes instead changedAt sameList drawnThere drawnThereTried
+drawn-there = by-walking drawnThereTried refl
+
+share-under-way : Right shareUnderWayTried
+unfolding computes instead changedAt sameList shareUnderWay shareUnderWayTried
+share-under-way = by-walking shareUnderWayTried refl
+
+crashed : Right crashesTried
+unfolding computes instead changedAt sameList crashes crashesTried
+crashed = by-walking crashesTried refl
+
+only-share : Right onlyShareTried
+unfolding computes instead changedAt sameList onlyShare onlyShareTried
+only-share = by-walking onlyShareTried refl
+
+back-before-ack : Right backBeforeAckTried
+unfolding computes instead changedAt sameList backBeforeAck backBeforeAckTried
+back-before-ack = by-walking backBeforeAckTried refl
+
+share-back : Right shareBackTried
+unfolding computes instead changedAt sameList shareBack shareBackTried
+share-back = by-walking shareBackTried refl
 
 -- all of them
 pub tries-right : TriesRight
-tries-right = (serials-tried, reads-tried, whole-tried, nothing-lost-tried)
+tries-right = (
+  two-jobs,
+  two-draws,
+  drawn-in-vain,
+  drawn-after-crash,
+  comes-again,
+  own-draw,
+  drawn-there,
+  share-under-way,
+  crashed,
+  only-share,
+  back-before-ack,
+  share-back,
+)

@@ -1,23 +1,23 @@
 -- Machines that go wrong in one place, several of them by a slip that looks right.
 -- Assumes nothing.
 use Prim.Native.Nat.{ℕ, zero, suc, _+_}
-use mathlib.Core.Bool.{cond}
-use mathlib.Core.List.{List}
+use mathlib.Core.Bool.{Bool, cond}
+use mathlib.Core.List.{List, [], _∷_}
 use lib.Dec.{eqb}
-use lib.ListN.{length}
+use lib.ListN.{length, take}
 use Rattle.words.specs.declared.Answer.{Answer}
 use Rattle.words.specs.declared.Answer.the-variants.{Done, Others}
 use Rattle.words.specs.Answers.{codeOf}
 use Rattle.words.specs.Numbers.{seriesCount}
 use Rattle.words.specs.Tests.{non, _and_}
-use Rattle.copies.specs.Tables.{Copies, seriesAt, value, held, stands}
-use Rattle.copies.specs.Steps.{dropped, arrived, marked, heldCount, matches}
+use Rattle.copies.specs.Tables.{Copies, Series, seriesAt, kind, value, held, stands}
+use Rattle.copies.specs.Steps.{putCopy, dropped, arrived, marked, heldCount, matches}
 use Rattle.jobs.specs.Job.{noJob, lockOn}
 use Rattle.jobs.specs.Slots.{countAt}
-use Rattle.jobs.specs.Draws.{Draw, drawsOf}
+use Rattle.jobs.specs.Draws.{Draw, drawsOf, committed}
 use Rattle.rulebook.specs.declared.Event.{Event}
 use Rattle.rulebook.specs.Tables.{Plant, withCopies}
-use Rattle.rulebook.specs.Events.{READ, COMMIT, DROP, PROMOTE, GRANT, CRASH, RESTART, aSeries, aStation, aFrom, aTo, aNumber, the, theSeries, theJob, theStation}
+use Rattle.rulebook.specs.Events.{DRAW, READ, COMMIT, DROP, PROMOTE, GRANT, CRASH, RESTART, aSeries, aStation, aFrom, aTo, aCount, aNumber, the, theSeries, theJob, theStation}
 use Rattle.rulebook.specs.Steps.{Effect, done, putJob, accepted}
 use Rattle.rulebook.specs.Run.{Machine}
 
@@ -38,14 +38,52 @@ doing k step m = instead k 0 step m
 abbrev pub allowing : ℕ → Answer → Machine → Machine
 allowing k a m = instead k (codeOf a) accepted m
 
--- ---- the serials
--- these draws are shown and the job closes, but nothing is stored
-abbrev pub shows : Plant → Event → List Draw → Effect
-shows p e ds = record { answer = Done (length ds); plant = putJob p e noJob; draws = ds }
+-- of the first k series, those of which the test holds at station n are changed there
+unfoldable pub changedAt : (Series → ℕ → Bool) → (Copies → ℕ → ℕ → Copies) → (n k : ℕ) → Copies → Copies
+changedAt test change n zero t = t
+changedAt test change n (suc s) t =
+    cond (test (seriesAt t s) n) (change (changedAt test change n s t) s n) (changedAt test change n s t)
 
--- COMMIT shows the draws and does not raise the copies, as where a station works from an old checkpoint: the serials are issued again
+-- RESTART changes something at its station besides
+abbrev pub restarting : (Series → ℕ → Bool) → (Copies → ℕ → ℕ → Copies) → Machine → Machine
+restarting test change =
+    doing RESTART
+    (λ p e. done (heldCount (p .copies) (the aStation e))
+    (withCopies p (marked (changedAt test change (the aStation e) seriesCount (p .copies)) (the aStation e) 1)))
+
+-- ---- the serials
+-- these draws are shown and the job closes, but only the first k are stored
+abbrev pub storing : (k : ℕ) → Plant → Event → List Draw → Effect
+storing k p e ds =
+    record { answer = Done (length ds); plant = putJob (withCopies p (committed (p .copies) (take k ds))) e noJob; draws = ds }
+
+-- COMMIT shows the draws and does not raise the copies: the serials are issued again
 abbrev pub commitUnstored : Machine → Machine
-commitUnstored = doing COMMIT (λ p e. shows p e (drawsOf (p .copies) (theJob p e)))
+commitUnstored = doing COMMIT (λ p e. storing 0 p e (drawsOf (p .copies) (theJob p e)))
+
+-- COMMIT raises the copy of a job's first draw, and merely counts and shows the rest
+abbrev pub commitFirstOnly : Machine → Machine
+commitFirstOnly = doing COMMIT (λ p e. storing 1 p e (drawsOf (p .copies) (theJob p e)))
+
+-- the draw that a DRAW asks for
+abbrev pub drawAsked : Plant → Event → Draw
+drawAsked p e =
+    record {
+      series = the aSeries e;
+      first = value (theSeries p e) (theStation p e);
+      count = the aCount e;
+      station = theStation p e;
+    }
+
+-- DRAW hands the serials out: they are stored and written into the output at once, and an ABORT can't take them back
+abbrev pub drawHandsOut : Machine → Machine
+drawHandsOut =
+    doing DRAW
+    (λ p e. record { answer = Done 0; plant = withCopies p (committed (p .copies) (drawAsked p e ∷ [])); draws = drawAsked p e ∷ [] })
+
+-- RESTART puts back the value that a station had in memory when its first draw was noted, the first number, and not the stored one
+abbrev pub restartFromMemory : Machine → Machine
+restartFromMemory = restarting held (λ t s n. putCopy t s n (kind (seriesAt t s) n) (seriesAt t s .first))
 
 -- GRANT of the standing Release is a repeat only if the receiver holds a token, which may have come and gone again: it arrives twice
 abbrev pub grantByToken : Machine → Machine
@@ -79,15 +117,6 @@ crashKeepsJobs =
 abbrev pub dropLast : Machine → Machine
 dropLast = allowing DROP Others
 
--- of the first k series, the copies at station n whose series has a standing Release there become void
-unfoldable pub voidReleased : ℕ → ℕ → Copies → Copies
-voidReleased n zero t = t
-voidReleased n (suc s) t =
-    cond (stands (seriesAt t s) n) (dropped (voidReleased n s t) s n) (voidReleased n s t)
-
 -- RESTART lets a standing Release void the copy at its station: the token may be back before its ACK
 abbrev pub restartVoids : Machine → Machine
-restartVoids =
-    doing RESTART
-    (λ p e. done (heldCount (p .copies) (the aStation e))
-    (withCopies p (marked (voidReleased (the aStation e) seriesCount (p .copies)) (the aStation e) 1)))
+restartVoids = restarting stands dropped

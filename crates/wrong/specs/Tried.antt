@@ -3,8 +3,9 @@
 use Prim.Native.Nat.{ℕ}
 use mathlib.Core.Path.{_≡_}
 use mathlib.Core.List.{List, [], _∷_, _++_}
+use lib.ListN.{replicate}
 use Rattle.rulebook.specs.declared.Event.{Event}
-use Rattle.rulebook.specs.Events.{OPEN, BEGIN, LOCKX, DRAW, READ, COMMIT, SEND, DEMOTE, SHARE, DROP, PROMOTE, GRANT, CRASH, RESTART}
+use Rattle.rulebook.specs.Events.{OPEN, BEGIN, LOCKX, DRAW, READ, COMMIT, ABORT, SEND, DEMOTE, SHARE, DROP, PROMOTE, GRANT, CRASH, RESTART}
 use Rattle.rulebook.specs.Edges.{event, gives, linesOf}
 use Rattle.rulebook.specs.Steps.{effect}
 use Rattle.rulebook.specs.Run.{Machine, fromEmpty}
@@ -51,6 +52,19 @@ reads = event READ 0 0 0 0
 unfoldable pub twoJobs : List Event
 twoJobs = opens ∷ takesOne 0 (takesOne 0 [])
 
+-- a serial is drawn, the station crashes and restarts, and another is drawn
+unfoldable pub drawnAfterCrash : List Event
+drawnAfterCrash = opens ∷ takesOne 0 (event CRASH 0 0 0 0 ∷ event RESTART 0 0 0 0 ∷ takesOne 0 [])
+
+-- a job locks series 1 and then series 0, draws one serial of each and commits
+unfoldable pub twoDraws : List Event
+twoDraws = opens ∷ event OPEN 1 1 9 0 ∷ event BEGIN 0 0 0 0 ∷ event LOCKX 0 1 0 0 ∷ event LOCKX 0 0 0 0
+    ∷ event DRAW 0 1 1 0 ∷ draws ∷ event COMMIT 0 0 0 0 ∷ []
+
+-- a job draws, and is aborted
+unfoldable pub drawnInVain : List Event
+drawnInVain = opens ∷ locks 0 (draws ∷ event ABORT 0 0 0 0 ∷ [])
+
 -- the token goes and comes back, a serial is drawn, and the first message comes once more
 unfoldable pub comesAgain : List Event
 comesAgain = opens ∷ returns (takesOne 0 (arrives 0 1 1 ∷ []))
@@ -88,42 +102,93 @@ shareBack = opens ∷ demotes ∷ event SHARE 0 0 1 0 ∷ arrives 0 1 1 ∷ even
 abbrev pub draw : ℕ → List ℕ
 draw n = 0 ∷ 1 ∷ 0 ∷ n ∷ 1 ∷ []
 
--- the change that is tried of the machine: none (the must-fail edits try those of Machines.antt)
-abbrev pub changed : Machine → Machine
-changed m = m
+-- k events accepted with value 0, and then these
+abbrev pub quiet : (k : ℕ) → List (List ℕ) → List (List ℕ)
+quiet k more = replicate k (gives 0 0) ++ more
 
--- the machine's answer lines to these events
-abbrev pub Gives : List Event → List (List ℕ) → Type 0
-Gives es answers = linesOf (fromEmpty (changed effect) es) ≡ answers
+-- accepted with value 1, and then these
+abbrev pub one : List (List ℕ) → List (List ℕ)
+one more = gives 0 1 ∷ more
 
--- of the lists that try the serials
-abbrev pub SerialsTried : Type 0
-SerialsTried =
-    Gives twoJobs (gives 0 0 ∷ gives 0 0 ∷ gives 0 0 ∷ gives 0 0 ∷ draw 1 ∷ gives 0 0 ∷ gives 0 0 ∷ gives 0 0 ∷ draw 2 ∷ [])
-    × Gives comesAgain
-    (gives 0 0 ∷ gives 0 1 ∷ gives 0 1 ∷ gives 0 1 ∷ gives 0 1 ∷ gives 0 0 ∷ gives 0 0 ∷ gives 0 0 ∷ draw 1 ∷ gives 0 0 ∷ [])
+-- the rulebook's machine as it is (the must-fail edit tries those of Machines.antt)
+abbrev pub unchanged : Machine → Machine
+unchanged m = m
+
+-- A change of the rulebook's machine, a list of events, and the answer lines that are to come.
+pub record Try : Type 0 where
+  pub change : Machine → Machine
+  pub events : List Event
+  pub lines : List (List ℕ)
+
+-- the three as one value
+abbrev pub gets : (Machine → Machine) → List Event → List (List ℕ) → Try
+gets change events lines = record { change = change; events = events; lines = lines }
+
+-- these answer lines come
+abbrev pub Right : Try → Type 0
+Right x = linesOf (fromEmpty (x .change effect) (x .events)) ≡ x .lines
+
+-- ---- list by list
+-- the serials: each job gets its own
+unfoldable pub twoJobsTried : Try
+twoJobsTried = gets unchanged twoJobs (quiet 4 (draw 1 ∷ quiet 3 (draw 2 ∷ [])))
+
+-- the next number is then read
+unfoldable pub twoDrawsTried : Try
+twoDrawsTried = gets unchanged (twoDraws ++ locks 0 (reads ∷ [])) (quiet 7 ((0 ∷ 2 ∷ 1 ∷ 1 ∷ 1 ∷ 0 ∷ 1 ∷ 1 ∷ []) ∷ quiet 2 (gives 0 2 ∷ [])))
+
+-- and here it is still the first
+unfoldable pub drawnInVainTried : Try
+drawnInVainTried = gets unchanged (drawnInVain ++ locks 0 (reads ∷ [])) (quiet 7 (one []))
+
+-- each draw has its own serial
+unfoldable pub drawnAfterCrashTried : Try
+drawnAfterCrashTried = gets unchanged drawnAfterCrash (quiet 4 (draw 1 ∷ quiet 1 (one (quiet 3 (draw 2 ∷ [])))))
+
+-- the message that comes again is a repeat
+unfoldable pub comesAgainTried : Try
+comesAgainTried = gets unchanged comesAgain (quiet 1 (one (one (one (one (quiet 3 (draw 1 ∷ quiet 1 [])))))))
 
 -- the reads: a READ comes last
-abbrev pub ReadsTried : Type 0
-ReadsTried =
-    Gives (ownDraw ++ reads ∷ []) (gives 0 0 ∷ gives 0 0 ∷ gives 0 0 ∷ gives 0 0 ∷ gives 0 2 ∷ [])
-    × Gives (drawnThere ++ reads ∷ [])
-    (gives 0 0 ∷ gives 0 1 ∷ gives 0 1 ∷ gives 0 0 ∷ gives 0 0 ∷ gives 0 0 ∷ draw 1 ∷ gives 0 0 ∷ gives 0 0 ∷ gives 0 2 ∷ [])
+unfoldable pub ownDrawTried : Try
+ownDrawTried = gets unchanged (ownDraw ++ reads ∷ []) (quiet 4 (gives 0 2 ∷ []))
+
+-- at the station that drew
+unfoldable pub drawnThereTried : Try
+drawnThereTried = gets unchanged (drawnThere ++ reads ∷ []) (quiet 1 (one (one (quiet 3 (draw 1 ∷ quiet 2 (gives 0 2 ∷ []))))))
 
 -- whole tables: an event more shows whether they are
-abbrev pub WholeTried : Type 0
-WholeTried =
-    Gives shareUnderWay (gives 0 0 ∷ gives 0 0 ∷ gives 0 1 ∷ gives 17 0 ∷ [])
-    × Gives (crashes ++ event RESTART 0 0 0 0 ∷ []) (gives 0 0 ∷ gives 0 1 ∷ gives 0 0 ∷ [])
+unfoldable pub shareUnderWayTried : Try
+shareUnderWayTried = gets unchanged shareUnderWay (quiet 2 (one (gives 17 0 ∷ [])))
+
+-- the station can restart
+unfoldable pub crashesTried : Try
+crashesTried = gets unchanged (crashes ++ event RESTART 0 0 0 0 ∷ []) (quiet 1 (one (quiet 1 [])))
 
 -- nothing lost: the token is still there to be locked, and a share arrives where there is one
-abbrev pub NothingLostTried : Type 0
-NothingLostTried =
-    Gives onlyShare (gives 0 0 ∷ gives 0 0 ∷ gives 17 0 ∷ [])
-    × Gives (backBeforeAck ++ locks 0 [])
-    (gives 0 0 ∷ gives 0 1 ∷ gives 0 1 ∷ gives 0 1 ∷ gives 0 1 ∷ gives 0 0 ∷ gives 0 1 ∷ gives 0 0 ∷ gives 0 0 ∷ [])
-    × Gives (shareBack ++ arrives 1 0 1 ∷ []) (gives 0 0 ∷ gives 0 0 ∷ gives 0 1 ∷ gives 0 1 ∷ gives 0 1 ∷ gives 0 1 ∷ [])
+unfoldable pub onlyShareTried : Try
+onlyShareTried = gets unchanged onlyShare (quiet 2 (gives 17 0 ∷ []))
+
+-- the token that came back is locked
+unfoldable pub backBeforeAckTried : Try
+backBeforeAckTried = gets unchanged (backBeforeAck ++ locks 0 []) (quiet 1 (one (one (one (one (quiet 1 (one (quiet 2 []))))))))
+
+-- the share that is sent back arrives
+unfoldable pub shareBackTried : Try
+shareBackTried = gets unchanged (shareBack ++ arrives 1 0 1 ∷ []) (quiet 2 (one (one (one (one [])))))
 
 -- THE STATEMENT: these are the machine's answer lines to the lists.
 abbrev pub TriesRight : Type 0
-TriesRight = SerialsTried × ReadsTried × WholeTried × NothingLostTried
+TriesRight =
+    Right twoJobsTried
+    × Right twoDrawsTried
+    × Right drawnInVainTried
+    × Right drawnAfterCrashTried
+    × Right comesAgainTried
+    × Right ownDrawTried
+    × Right drawnThereTried
+    × Right shareUnderWayTried
+    × Right crashesTried
+    × Right onlyShareTried
+    × Right backBeforeAckTried
+    × Right shareBackTried
