@@ -18,30 +18,31 @@ use words::STATIONS;
 use words::Serial;
 use words::VOID;
 
-// The kind of a station's copy.
-pub fn kind(kinds: &[u32], series: u32, station: u32) -> u32
-    ensures { λ r. ⌜ r ≡ read placeCount (now (kinds .entry)) (badCopy series station) (place series station) ⌝ }
+// What a column keeps of a station's copy.
+fn entry(column: &[u32], series: u32, station: u32) -> u32
+    ensures { λ r. ⌜ r ≡ read placeCount (now (column .entry)) (badCopy series station) (place series station) ⌝ }
 {
-    if kinds.len() < PLACES {
+    if column.len() < PLACES {
         return 0;
     }
     if bad_copy(series, station) {
         return 0;
     }
-    kinds[series as usize * STATIONS + station as usize]
+    column[series as usize * STATIONS + station as usize]
+}
+
+// The kind of a station's copy.
+pub fn kind(kinds: &[u32], series: u32, station: u32) -> u32
+    ensures { λ r. ⌜ r ≡ read placeCount (now (kinds .entry)) (badCopy series station) (place series station) ⌝ }
+{
+    entry(kinds, series, station)
 }
 
 // The value of a station's copy.
 pub fn value(values: &[Serial], series: u32, station: u32) -> Serial
     ensures { λ r. ⌜ r ≡ read placeCount (now (values .entry)) (badCopy series station) (place series station) ⌝ }
 {
-    if values.len() < PLACES {
-        return 0;
-    }
-    if bad_copy(series, station) {
-        return 0;
-    }
-    values[series as usize * STATIONS + station as usize]
+    entry(values, series, station)
 }
 
 // Whether a series is open.

@@ -1,4 +1,4 @@
-// The job job by value. Its methods read it, or add a lock, note a draw, close it, and hand the job back.
+// The job record by value. Its methods read it, or add a lock, note a draw, close it, and hand the record back.
 ghost use mathlib.Core.Path.{_≡_};
 ghost use lib.Dec.{eqb};
 ghost use Rattle.words.specs.Tests.{non, _and_};

@@ -45,7 +45,8 @@ reply a ns = record { answer = a; numbers = ns }
 unfoldable pub answerText : ℕ → Reply → List ℕ
 answerText n r = line n (codeOf (r .answer) ∷ valueOf (r .answer) ∷ take outCount (r .numbers))
 
--- the longest answer line, with its LF: a line number of twenty digits, a code of two, value and twelve numbers of ten
+-- no answer line is longer, its LF counted: a line number of twenty digits, a code of two, value and twelve numbers of ten; one byte is to spare, since
+-- a code of two digits comes with value 0
 abbrev pub answerRoom : ℕ
 answerRoom = 167
 

@@ -90,7 +90,7 @@ fn least(a: usize, b: usize) -> usize
 }
 
 // An answer line at a position of out: the line's number, the answer's code and value, and the first many numbers of row, at most
-// twelve. It asks for the room of the longest answer line; else out stays as it is.
+// twelve. It asks for room for any answer line; else out stays as it is.
 pub fn write_answer(
     out: &mut [u8],
     at: usize,
@@ -113,7 +113,7 @@ pub fn write_answer(
     Wrote::To(put_answer(out, at, number, answer.code(), answer.value(), row, shown))
 }
 
-// An event line at a position of out: the kind and exactly its fields. It asks for the room of the longest event line; else out stays
+// An event line at a position of out: the kind and exactly its fields. It asks for room for any event line; else out stays
 // as it is.
 pub fn write_event(out: &mut [u8], at: usize, event: Event) -> Wrote
     ensures { λ r. ⌜ r ≡ wroteAt eventRoom (length (now (out .entry))) at (eventText event) ⌝ }

@@ -1,11 +1,11 @@
--- `copies::read::value` meets its contract: 0 where the flags say that there is no such copy, else the entry. Assumes nothing.
+-- `copies::read::entry` meets its contract: 0 where the flags say that there is no such copy, else the entry. Assumes nothing.
 use native.Mathlib.Omega.{arith}
 use mathlib.Core.Path.{sym, _∙_}
 use borrow.Author.Needs.{needs}
 use Rattle.copies.proofs.Guards.{good-copy}
 use Rattle.copies.proofs.Reading.{read-short, read-bad, read-at}
-use Rattle.copies.proofs.read.value.Statement.{statement}
-use Rattle.copies.proofs.read.value.Tie as tie
+use Rattle.copies.proofs.read.entry.Statement.{statement}
+use Rattle.copies.proofs.read.entry.Tie as tie
 
 returns : tie.Need-returns
 returns c = search read-short
@@ -33,8 +33,8 @@ returns-3 c =
     let fit = sym (c .before .before .bad-copy .ensures) ∙ c .before .if2 .left in
     search read-at
 
-pub value-spec : {M : Type 1} → statement M
-value-spec =
+pub entry-spec : {M : Type 1} → statement M
+entry-spec =
     tie.close
     (tie.spec
     returns
