@@ -22,3 +22,4 @@ pub mod Columns
 pub mod Received
 pub mod Leaves
 pub mod After
+pub mod Once
