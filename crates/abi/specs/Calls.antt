@@ -24,6 +24,7 @@ pub record Left : Type 0 where
   pub plant : Plant
   pub out : List ℕ
 
+-- the three as one value
 abbrev pub left : Said → Plant → List ℕ → Left
 left s p out = record { said = s; plant = p; out = out }
 
@@ -36,6 +37,7 @@ pub record Made : Type 0 where
   pub said : Said
   pub plant : Plant
 
+-- the two as one value
 abbrev pub made : Said → Plant → Made
 made s p = record { said = s; plant = p }
 

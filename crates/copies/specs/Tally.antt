@@ -1,5 +1,5 @@
 -- How the walk's functions count the tokens of W2 in one pass, and what else they say to each other.
--- A reader of W2 needs none of it: `tally-same` of proofs/Tokens.antt shows that the count is W2's test.
+-- A reader of W2 needs none of it: `tally-same` of proofs/Tokens.antt shows that the count is W2's test, of values above 0 as W1 asks.
 -- Assumes nothing.
 use Prim.Native.Nat.{ℕ, zero, suc, _+_, _≤_}
 use mathlib.Core.Bool.{Bool, true, cond, _&&_, _||_}

@@ -10,7 +10,7 @@ use Rattle.copies.specs.Tables.{Copies}
 use Rattle.jobs.specs.declared.Job.{Job}
 use Rattle.jobs.specs.Slots.{jobAt}
 use Rattle.jobs.specs.Calls.{turned}
-use Rattle.jobs.specs.Once.{Taken}
+use Rattle.jobs.specs.Once.{TurnLeft}
 use Rattle.rulebook.specs.declared.Event.{Event}
 use Rattle.rulebook.specs.Tables.{plant}
 use Rattle.events.specs.Calls.{left}
@@ -20,5 +20,5 @@ use Rattle.events.specs.Unchecked.{slotOf, uncheckedTurn}
 abbrev pub TurnOnce : Type 0
 TurnOnce =
     (t : Copies) (job : Job) (free : Bool) (out : List ℕ) (e : Event)
-    → OneResult (λ (x : Taken). (bs : List Job) → job ≡ jobAt bs (slotOf e)
+    → OneResult (λ (x : TurnLeft). (bs : List Job) → job ≡ jobAt bs (slotOf e)
     → left (turned bs (slotOf e) (x .turn)) (x .copies) (x .out) ≡ uncheckedTurn (plant t bs) free out e)

@@ -1,16 +1,18 @@
--- The promise of a call over one slot allows one result: of slots that all hold the job, what it leaves shows all of it. Assumes nothing.
+-- The promise of each call allows one result: of one over one slot, given slots that all hold the job, what it leaves shows all of it.
+-- Assumes nothing.
 use Prim.Native.Nat.{ℕ, suc, _<_}
 use native.Mathlib.Omega.{arith}
-use mathlib.Core.Path.{_≡_, sym, ap, _∙_}
+use mathlib.Core.Path.{_≡_, refl, sym, ap, _∙_}
 use mathlib.Core.List.{List}
 use lib.ListN.{length, replicate, length-replicate, getD-replicate}
 use lib.Seq.{getD-set-same}
+use Rattle.words.proofs.Results.{one-result}
 use Rattle.jobs.specs.declared.Job.{Job}
 use Rattle.jobs.specs.declared.Stepped.{Stepped}
 use Rattle.jobs.specs.declared.Turn.{Turn}
 use Rattle.jobs.specs.Slots.{noSlot, jobAt}
-use Rattle.jobs.specs.Calls.{Outcome, turned}
-use Rattle.jobs.specs.Once.{TurnOnce, ReadOnce, CommitOnce, EachOnce}
+use Rattle.jobs.specs.Calls.{Outcome, outcome, turned}
+use Rattle.jobs.specs.Once.{TurnOnce, ReadOnce, CommitOnce, CrashOnce, EachOnce}
 
 module _ (job : Job) (j : ℕ) where
   -- slots up to j that all hold the job
@@ -49,5 +51,8 @@ commit-once job j F x y px py =
       out = ap (λ (o : Outcome). o .out) both i;
     }
 
+crash-once : CrashOnce
+crash-once o = one-result (λ (x : Outcome). outcome (x .stepped) (x .copies) (x .out)) (λ (x : Outcome). x) (λ x. refl) o
+
 pub each-once : EachOnce
-each-once = (turn-once, read-once, commit-once)
+each-once = (turn-once, read-once, commit-once, crash-once)

@@ -47,7 +47,7 @@ unfoldable pub shown : List Draw → List ℕ
 shown [] = []
 shown (d ∷ ds) = d .series ∷ d .first ∷ d .count ∷ shown ds
 
--- ---- draws that can be committed, as all can in whole tables (W1, W4)
+-- ---- draws that can be committed, as all can in whole tables (W1, W4, W5)
 -- what lock place i has drawn is within the series and within what a value may be, on a used place, and no earlier place is on that series
 unfoldable pub drawFits : (lasts values : List ℕ) → Job → ℕ → Bool
 drawFits lasts values b i =

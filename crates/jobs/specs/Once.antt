@@ -1,4 +1,4 @@
--- The promise of a call over one slot allows one result ("What the contracts are held to" in 01), whatever its definition F makes of the slots.
+-- The promise of each call of the layer allows one result ("What the contracts are held to" in 01), whatever its definition makes of the tables.
 -- Assumes nothing.
 use Prim.Native.Nat.{ℕ}
 use mathlib.Core.Path.{_≡_}
@@ -21,7 +21,7 @@ abbrev pub ReadOnce : Type 0
 ReadOnce = (job : Job) (j : ℕ) (F : List Job → Answer) → OneResult (λ (a : Answer). (bs : List Job) → job ≡ jobAt bs j → a ≡ F bs)
 
 -- What a call that changes more than its slot gives back and leaves.
-pub record Taken : Type 0 where
+pub record TurnLeft : Type 0 where
   pub turn : Turn
   pub copies : Copies
   pub out : List ℕ
@@ -30,8 +30,12 @@ pub record Taken : Type 0 where
 abbrev pub CommitOnce : Type 0
 CommitOnce =
     (job : Job) (j : ℕ) (F : List Job → Outcome)
-    → OneResult (λ (x : Taken). (bs : List Job) → job ≡ jobAt bs j → outcome (turned bs j (x .turn)) (x .copies) (x .out) ≡ F bs)
+    → OneResult (λ (x : TurnLeft). (bs : List Job) → job ≡ jobAt bs j → outcome (turned bs j (x .turn)) (x .copies) (x .out) ≡ F bs)
 
--- THE STATEMENT: of all seven.
+-- of CRASH, over the sixteen slots: the answer, the slots, every table entry and every output place
+abbrev pub CrashOnce : Type 0
+CrashOnce = (o : Outcome) → OneResult (λ (x : Outcome). outcome (x .stepped) (x .copies) (x .out) ≡ o)
+
+-- THE STATEMENT: of all eight. (What only reads promises that its result equals a definition, and so does each method.)
 abbrev pub EachOnce : Type 0
-EachOnce = TurnOnce × ReadOnce × CommitOnce
+EachOnce = TurnOnce × ReadOnce × CommitOnce × CrashOnce

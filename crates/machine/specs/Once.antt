@@ -1,5 +1,5 @@
--- The promise of each public call of this crate and of `events` allows one result ("What the contracts are held to" in 01): the answer and every other number given back, every
--- table entry and every output place.
+-- The promise of each public call of this crate, and of `step_unchecked` of `events`, allows one result ("What the contracts are held to" in 01):
+-- the answer and every other number given back, every table entry and every output place.
 -- Assumes nothing.
 use Prim.Native.Nat.{ℕ}
 use mathlib.Core.Path.{_≡_}

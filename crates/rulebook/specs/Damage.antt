@@ -1,11 +1,11 @@
 -- W1 to W5 of 01 told apart: tables that were whole, each with one number changed, and the one rule that it then breaks.
 -- Assumes nothing.
-use Prim.Native.Nat.{ℕ, _+_}
+use Prim.Native.Nat.{ℕ}
 use mathlib.Core.Path.{_≡_}
 use mathlib.Core.Bool.{Bool, cond}
 use mathlib.Core.List.{List, [], _∷_, _++_, map}
 use lib.ListN.{set}
-use Rattle.copies.specs.Tables.{Copies, withCopies, withReleases, withReceived, place, receivedPlace}
+use Rattle.copies.specs.Tables.{Copies, withBounds, withCopies, withReleases, withReceived, place, receivedPlace}
 use Rattle.copies.specs.Steps.{putKind, marked}
 use Rattle.jobs.specs.declared.Job.{Job}
 use Rattle.jobs.specs.Job.{lockAt, putLock}
@@ -14,7 +14,7 @@ use Rattle.rulebook.specs.declared.Event.{Event}
 use Rattle.rulebook.specs.Tables.{Plant, withJobs}
 use Rattle.rulebook.specs.Tables as plant
 use Rattle.rulebook.specs.Whole.{W1, W2, W3, W4, W5}
-use Rattle.rulebook.specs.Events.{OPEN, BEGIN, LOCKX, DRAW, SEND, DEMOTE, SHARE, GRANT}
+use Rattle.rulebook.specs.Events.{OPEN, BEGIN, LOCKX, LOCKS, DRAW, SEND, DEMOTE, SHARE, GRANT, ACK}
 use Rattle.rulebook.specs.Steps.{accepted}
 use Rattle.rulebook.specs.Around.{emptyPlant}
 use Rattle.rulebook.specs.Edges.{event}
@@ -33,8 +33,8 @@ after p [] = p
 after p (e ∷ es) = after (accepted p e .plant) es
 
 -- The busy plant. Series 0, of 10 to 19, is exclusive at station 0, where job 0 locks it and has drawn 4. Series 1 is a share at
--- stations 0 and 1, and a third is under way from 0 to 2. Series 2 has gone from 0 to 1, and its Release still stands. Series 3 and 4 are
--- exclusive at station 0, where job 1 locks both.
+-- stations 0 and 1, where job 2 locks it at 1, and a third is under way from 0 to 2. Series 2 has gone from 0 to 1, and its Release still
+-- stands. Series 3 and 4 are exclusive at station 0, where job 1 locks both.
 unfoldable pub busy : Plant
 busy =
     after emptyPlant
@@ -46,6 +46,7 @@ busy =
     ∷ event DEMOTE 1 1 0 0
     ∷ event SHARE 1 1 0 0
     ∷ event GRANT 1 1 0 1
+    ∷ event ACK 1 1 0 1
     ∷ event SHARE 1 0 2 0
     ∷ event OPEN 2 1 1 0
     ∷ event SEND 2 0 1 0
@@ -55,11 +56,17 @@ busy =
     ∷ event BEGIN 1 0 0 0
     ∷ event LOCKX 1 3 0 0
     ∷ event LOCKX 1 4 0 0
+    ∷ event BEGIN 2 1 0 0
+    ∷ event LOCKS 2 1 0 0
     ∷ [])
 
 -- a change of the lower layer's tables
 abbrev pub inCopies : (Copies → Copies) → Plant → Plant
 inCopies change p = plant.withCopies p (change (p .copies))
+
+-- another last number of a series
+abbrev pub lastAs : ℕ → ℕ → Copies → Copies
+lastAs s last t = withBounds t (t .firsts) (set (t .lasts) s last)
 
 -- another copy kind
 abbrev pub kindAs : ℕ → ℕ → ℕ → Copies → Copies
@@ -76,6 +83,10 @@ sentAs s n k t = withReleases t (set (t .sent) (place s n) k) (t .relTo) (t .rel
 -- another receiver of a Release
 abbrev pub receiverAs : ℕ → ℕ → ℕ → Copies → Copies
 receiverAs s n to t = withReleases t (t .sent) (set (t .relTo) (place s n) to) (t .relKind) (t .relValue)
+
+-- another kind of a Release
+abbrev pub relKindAs : ℕ → ℕ → ℕ → Copies → Copies
+relKindAs s n k t = withReleases t (t .sent) (t .relTo) (set (t .relKind) (place s n) k) (t .relValue)
 
 -- another value of a Release
 abbrev pub relValueAs : ℕ → ℕ → ℕ → Copies → Copies
@@ -122,17 +133,21 @@ pub record Damage : Type 0 where
 abbrev pub breaks : ℕ → (Plant → Plant) → Damage
 breaks rule change = record { change = change; rules = rule ∷ [] }
 
--- no change, and then one for each way to break a rule
+-- no change, and then changes of one number. They try each part of a rule that can be broken without another rule; a job's station, a lock's
+-- series or a drawn count out of its range (W1) always breaks W4 or W5 too.
 unfoldable pub damages : List Damage
 damages =
     record { change = λ p. p; rules = [] }
-    -- a kind that there isn't; a void copy's value above last + 1, or below first; a sent count above 9,999
+    -- a last number above the greatest; a kind that there isn't; a void copy's value above last + 1, or below first; a sent count above 9,999
+    ∷ breaks 1 (inCopies (lastAs 0 1_000_000_000))
     ∷ breaks 1 (inCopies (kindAs 0 5 3))
     ∷ breaks 1 (inCopies (valueAs 0 5 21))
     ∷ breaks 1 (inCopies (valueAs 0 5 9))
     ∷ breaks 1 (inCopies (sentAs 0 5 10_000))
-    -- a Release to its own station; a delivered one's value out of bounds; a station's mark
+    -- a Release to its own station, or to none; a delivered one's kind that there isn't, or value out of bounds; a station's mark
     ∷ breaks 1 (inCopies (receiverAs 1 0 0))
+    ∷ breaks 1 (inCopies (receiverAs 1 0 8))
+    ∷ breaks 1 (inCopies (relKindAs 2 0 3))
     ∷ breaks 1 (inCopies (relValueAs 2 0 3))
     ∷ breaks 1 (inCopies (markAs 6 2))
     -- a job's mark, a lock's mode
@@ -149,21 +164,27 @@ damages =
     ∷ breaks 3 (inCopies (receivedAs 2 5 0 1))
     ∷ breaks 3 (inCopies (receivedAs 1 1 1 1))
     -- an open job at a station that is down; a lock of a series not open, or of a copy not held; drawn more than is left; a share
-    -- lock of an exclusive copy
+    -- lock of an exclusive copy; an exclusive lock of a share copy; a share lock with a drawn count
     ∷ breaks 4 (inCopies (markAs 0 0))
-    ∷ breaks 4 (inJob 0 (seriesAs 0 9))
-    ∷ breaks 4 (inJob 0 (seriesAs 0 2))
+    ∷ breaks 4 (inJob 1 (seriesAs 0 9))
+    ∷ breaks 4 (inJob 1 (seriesAs 0 2))
     ∷ breaks 4 (inJob 0 (drawnAs 0 11))
-    ∷ breaks 4 (inJob 0 (modeAs 0 1))
+    ∷ breaks 4 (inJob 1 (modeAs 0 1))
+    ∷ breaks 4 (inJob 2 (modeAs 0 2))
+    ∷ breaks 4 (inJob 2 (drawnAs 0 1))
     -- two jobs' exclusive locks of one copy; two locks of one series
     ∷ breaks 4 (inJob 1 (seriesAs 0 0))
     ∷ breaks 4 (inJob 1 (seriesAs 1 3))
-    -- a series that isn't open, a Release that doesn't stand, an unused slot, an unused lock place keep something
+    -- a series that isn't open, a Release that doesn't stand, an unused slot, an unused lock place keep something; a used place comes after one
+    -- that isn't
+    ∷ breaks 5 (inCopies (lastAs 9 5))
     ∷ breaks 5 (inCopies (valueAs 9 0 5))
     ∷ breaks 5 (inCopies (receivedAs 63 7 0 1))
     ∷ breaks 5 (inCopies (receiverAs 0 0 2))
+    ∷ breaks 5 (inCopies (relValueAs 0 0 5))
     ∷ breaks 5 (inJob 15 (stationAs 3))
     ∷ breaks 5 (inJob 0 (seriesAs 3 2))
+    ∷ breaks 5 (inJob 1 (modeAs 0 0))
     ∷ []
 
 -- THE STATEMENT: the busy plant is whole, and each change of it breaks the rule named, and no other.

@@ -1,14 +1,13 @@
--- A run: the steps of a list of events, one after the other, from the empty plant.
+-- A run: the steps of a list of events, one after the other, from given tables or from the empty plant.
 -- Assumes nothing.
 use Prim.Native.Nat.{ℕ, _*_}
 use mathlib.Core.Bool.{cond}
-use mathlib.Core.List.{List, [], _∷_, _++_}
+use mathlib.Core.List.{List, [], _∷_}
 use lib.Dec.{eqb}
 use lib.ListN.{take, replicate}
 use Rattle.words.specs.declared.Answer.{Answer}
 use Rattle.words.specs.Answers.{valueOf}
 use Rattle.words.specs.Numbers.{outCount}
-use Rattle.jobs.specs.Draws.{Draw}
 use Rattle.rulebook.specs.declared.Event.{Event}
 use Rattle.rulebook.specs.Tables.{Plant}
 use Rattle.rulebook.specs.Events.{COMMIT}
@@ -25,20 +24,19 @@ abbrev pub replyTo : Event → Outcome → Reply
 replyTo e o =
     record { answer = o .answer; numbers = cond (eqb (e .kind) COMMIT) (take (3 * valueOf (o .answer)) (o .out)) [] }
 
--- the replies and the committed draws, in order; the tables and the output at the end
+-- the replies in order; the tables and the output at the end
 pub record Run : Type 0 where
   pub replies : List Reply
-  pub draws : List Draw
   pub plant : Plant
   pub out : List ℕ
 
--- a reply and its draws, before those of a run
-abbrev pub before : Reply → List Draw → Run → Run
-before a ds r = record { replies = a ∷ r .replies; draws = ds ++ r .draws; plant = r .plant; out = r .out }
+-- a reply before those of a run
+abbrev pub before : Reply → Run → Run
+before a r = record { replies = a ∷ r .replies; plant = r .plant; out = r .out }
 
 -- the effect of an event, and the run that goes on from it
 abbrev pub andThen : Event → List ℕ → Effect → (Plant → List ℕ → Run) → Run
-andThen e out x go = before (replyTo e (outcome out x)) (x .draws) (go (x .plant) (outcome out x .out))
+andThen e out x go = before (replyTo e (outcome out x)) (go (x .plant) (outcome out x .out))
 
 -- A machine: what it does with an event, given the tables and the output. The rulebook's is `effect`.
 abbrev pub Machine : Type 0
@@ -46,7 +44,7 @@ Machine = Plant → List ℕ → Event → Effect
 
 -- the run of a machine from given tables and output
 unfoldable pub runBy : Machine → Plant → List ℕ → List Event → Run
-runBy m p out [] = record { replies = []; draws = []; plant = p; out = out }
+runBy m p out [] = record { replies = []; plant = p; out = out }
 runBy m p out (e ∷ es) = andThen e out (m p out e) (λ q next. runBy m q next es)
 
 -- and from the empty plant

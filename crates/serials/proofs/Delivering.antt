@@ -2,7 +2,7 @@
 -- Assumes nothing.
 use Prim.Native.Nat.{ℕ, _≤_, _<_}
 use native.Mathlib.Omega.{arith}
-use mathlib.Core.Path.{_≡_, refl, sym}
+use mathlib.Core.Path.{_≡_, refl, sym, ap, subst, _∙_}
 use mathlib.Core.Bool.{true, false}
 use mathlib.Core.List.{List}
 use lib.Dec.{leb}
@@ -11,21 +11,26 @@ use borrow.Author.Tests.{le-ltb, lt-leb, le-leb, eq-eqb, ne-eqb}
 use Rattle.words.specs.declared.Answer.the-variants.{Done}
 use Rattle.words.specs.Numbers.{stationCount, seriesCount, outCount, greatestSent}
 use Rattle.words.specs.Tests.{non, _and_, _or_}
+use Rattle.words.proofs.Laws.{neither}
 use Rattle.words.proofs.Guards.{non-true}
 use Rattle.copies.specs.Tables.{Copies, Series, seriesAt, isUp, sentCount, relTo, received}
-use Rattle.copies.specs.Steps.{isRepeat, matches, noGrant}
+use Rattle.copies.specs.Steps.{isRepeat, matches, noGrant, arrived}
+use Rattle.copies.specs.declared.Kept.{Kept}
 use Rattle.copies.specs.Facts.{Open, Stands, Undelivered, CopiesWhole}
+use Rattle.copies.proofs.Long.{Long, long}
+use Rattle.copies.proofs.There.{there-same}
+use Rattle.copies.proofs.After.{after-arrived}
 use Rattle.rulebook.specs.declared.Event.{Event}
-use Rattle.rulebook.specs.Tables.{Plant, shortTables}
+use Rattle.rulebook.specs.Tables.{Plant, withCopies, shortTables}
 use Rattle.rulebook.specs.Whole.{whole}
 use Rattle.rulebook.specs.Events.{GRANT, Field, aSeries, aFrom, aTo, aNumber, fieldsOf, numbers, fit}
 use Rattle.rulebook.specs.Edges.{event}
 use Rattle.rulebook.specs.Refusals.{refusals, SHORT, NOT-WHOLE, BAD-EVENT, TAKEN, NONE, DOWN, UP, HELD, FULL, COPY, LOCKED, NO-LOCK, DRAWN, RANGE, WAIT, SPENT, OTHERS, NO-MESSAGE}
-use Rattle.rulebook.specs.Steps.{doGRANT, accepted, effect}
+use Rattle.rulebook.specs.Steps.{Effect, done, doGRANT, accepted, effect}
 use Rattle.rulebook.proofs.Checked.{whole-facts}
 use Rattle.rulebook.proofs.Judging.{NoneGiven, judged-accepted, _then_}
 use Rattle.rulebook.proofs.Ranges.{InRange}
-use Rattle.serials.specs.NothingLost.{message}
+use Rattle.serials.specs.NothingLost.{message, Arrived}
 
 -- An undelivered transfer of a series that is open: its number and its receiver are such as a GRANT can name.
 record Coming (r : Series) (from : ℕ) : Type 0 where
@@ -133,14 +138,44 @@ module _ (p : Plant) (s from : ℕ) (k : Coming (seriesAt (p .copies) s) from) w
       then is-message k
       then tt
 
--- an undelivered transfer whose receiver is up arrives by its message
-pub delivers : (p : Plant) (out : List ℕ) (s from : ℕ) → shortTables p ≡ false → outCount ≤ length out → whole p ≡ true
-    → s < seriesCount
-    → from < stationCount
-    → Undelivered (seriesAt (p .copies) s) from
-    → isUp (p .copies) (relTo (seriesAt (p .copies) s) from) ≡ true
-    → effect p out (message (seriesAt (p .copies) s) s from) .answer ≡ Done 1
-unfolding effect accepted doGRANT
-delivers p out s from short room w inSeries inStation u up =
-    let k = coming (p .copies) s from (whole-facts p w .0) inSeries inStation u in
-    rw (judged-accepted (refusals out) p (arriving p s from k) (none-given p s from k out short room w inSeries inStation up), no-repeat k)
+-- tables that are not short
+long-enough : (p : Plant) → shortTables p ≡ false → Long (p .copies)
+unfolding shortTables
+long-enough p short = long (neither _ _ short .0)
+
+-- what GRANT writes is a transfer that has arrived
+has-arrived : {t : Copies} {s from : ℕ} → Long t → s < seriesCount → from < stationCount → Coming (seriesAt t s) from
+    → Arrived (seriesAt t s) from (seriesAt (arrived t s from (relTo (seriesAt t s) from) (sentCount (seriesAt t s) from)) s)
+has-arrived {t} {s} {from} long inSeries inStation k =
+    let left = after-arrived long inSeries inStation (k .toStation) (sentCount (seriesAt t s) from) .here in
+    let kept = left .kept (relTo (seriesAt t s) from) (k .toStation) ∙ there-same _ _ _ in
+    record {
+      kindThere = ap (λ (b : Kept). b .kind) kept;
+      valueThere = ap (λ (b : Kept). b .value) kept;
+      numberThere = left .received _ from (k .toStation) inStation ∙ ap (λ (got : ℕ → ℕ). got from) (there-same _ _ _) ∙ there-same _ _ _;
+    }
+
+module _ (p : Plant) (out : List ℕ) (s from : ℕ) (short : shortTables p ≡ false) (room : outCount ≤ length out) (w : whole p ≡ true)
+    (inSeries : s < seriesCount) (inStation : from < stationCount) where
+  -- the series
+  abbrev mine : Series
+  mine = seriesAt (p .copies) s
+
+  -- what the message of an undelivered transfer whose receiver is up does
+  arrives : (k : Coming mine from) → isUp (p .copies) (relTo mine from) ≡ true
+      → effect p out (message mine s from) ≡ done 1 (withCopies p (arrived (p .copies) s from (relTo mine from) (sentCount mine from)))
+  unfolding effect accepted doGRANT
+  arrives k up =
+      rw (judged-accepted (refusals out) p (arriving p s from k) (none-given p s from k out short room w inSeries inStation up), no-repeat k)
+
+  -- it is accepted with value 1, and the transfer has arrived
+  pub delivers : Undelivered mine from → isUp (p .copies) (relTo mine from) ≡ true
+      → (effect p out (message mine s from) .answer ≡ Done 1)
+      × Arrived mine from (seriesAt (effect p out (message mine s from) .plant .copies) s)
+  delivers u up =
+      let k = coming (p .copies) s from (whole-facts p w .0) inSeries inStation u in
+      let done-so = arrives k up in (
+        ap (λ (x : Effect). x .answer) done-so,
+        subst (λ (x : Effect). Arrived mine from (seriesAt (x .plant .copies) s)) (sym done-so)
+            (has-arrived (long-enough p short) inSeries inStation k),
+      )

@@ -25,6 +25,7 @@ use Rattle.serials.proofs.Tiling.{chain-once, chain-count, idle-none}
 use Rattle.serials.proofs.Leaving.{whole-at}
 use Rattle.serials.proofs.Stepping.{keeps-whole}
 use Rattle.serials.proofs.Reading.{read-value}
+use Rattle.serials.proofs.Showing.{only-commit}
 use Rattle.serials.proofs.Delivering.{delivers}
 use Rattle.serials.proofs.Running.{Sure, ran}
 
@@ -43,6 +44,7 @@ serials es =
     let sure = ran es .sure in (
       λ s l o. (_, is-next (whole-there sure s l o), chain-once (sure .issued s l .opened o)),
       λ i l. (sure .known i l, drawn-open sure i l),
+      λ e other. only-commit _ _ e (sure .four) other,
     )
 
 -- a READ by its fields

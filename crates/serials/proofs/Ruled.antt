@@ -7,6 +7,7 @@ use mathlib.Core.Bool.{Bool, true, false, true≢false}
 use mathlib.Core.List.{List, [], _∷_}
 use mathlib.Core.Logic.{⊎-elim}
 use lib.Dec.{eqb}
+use lib.ListN.{length}
 use borrow.Author.Tests.{eqb-true}
 use Rattle.words.specs.declared.Answer.{Answer}
 use Rattle.words.specs.Answers.{valueOf}
@@ -15,7 +16,7 @@ use Rattle.words.specs.Numbers.{stationCount}
 use Rattle.words.specs.Tests.{non, _and_, someBelow}
 use Rattle.words.proofs.Laws.{both-true}
 use Rattle.words.proofs.Reflects.{reflects-eq, reflects-not, reflects-and, reflects-none}
-use Rattle.copies.specs.Tables.{Series, isOpen, value, held, undelivered, isUp, relTo}
+use Rattle.copies.specs.Tables.{Series, seriesAt, isOpen, kind, value, held, undelivered, isUp, relTo}
 use Rattle.copies.specs.Facts.{Open, Held, Undelivered}
 use Rattle.copies.proofs.Tokens.{held-reflects, undelivered-reflects}
 use Rattle.rulebook.specs.declared.Event.{Event}
@@ -23,12 +24,12 @@ use Rattle.rulebook.specs.Run.{Machine, Run, fromEmpty}
 use Rattle.rulebook.proofs.Walked.{wholeWalked, whole-walked, effectWalked, same-machine}
 use Rattle.rulebook.proofs.Computes.{computes}
 use Rattle.serials.specs.Draws.{Drawn, drawsIn, drawsShown, drawsAfter, countIn, Belongs}
-use Rattle.serials.specs.Serials.{Serials, seriesAfter, EachOnce, OpenOnce, OnlyOpen}
+use Rattle.serials.specs.Serials.{Serials, seriesAfter, SerialsOnce, OpenOnce, OnlyOpen}
 use Rattle.serials.specs.Reads.{Reads, readOf}
 use Rattle.serials.specs.StaysWhole.{StaysWhole}
 use Rattle.serials.specs.NothingLost.{NothingLost, TokenKept, Deliverable, message}
-use Rattle.wrong.specs.Tried.{reads, twoJobs, drawnAfterCrash, twoDraws, drawnInVain, comesAgain, ownDraw, drawnThere, shareUnderWay, crashes, onlyShare, backBeforeAck, shareBack}
-use Rattle.wrong.specs.Machines.{instead, changedAt, commitUnstored, commitFirstOnly, drawHandsOut, restartFromMemory, grantByToken, readWithoutOwn, readAtZero, promoteEarly, crashKeepsJobs, dropLast, restartVoids}
+use Rattle.wrong.specs.Tried.{opens, sends, locks, draws, reads, twoJobs, drawnAfterCrash, twoDraws, drawnInVain, comesAgain, ownDraw, drawnThere, shareUnderWay, crashes, onlyShare, backBeforeAck, shareBack}
+use Rattle.wrong.specs.Machines.{instead, changedAt, commitUnstored, commitFirstOnly, drawShows, drawHandsOut, restartFromMemory, grantByToken, readWithoutOwn, readAtZero, promoteEarly, crashKeepsJobs, grantForgets, dropLast, restartVoids}
 use Rattle.serials.specs.RuledOut.{RulesOut, RuledOut}
 
 -- what is false of the machine that antt can compute, with a change, is false of the rulebook's with that change
@@ -47,10 +48,10 @@ in-both (suc zero) lt = record { isDraw = omega arith; ofSeries = refl; isPlace 
 in-both (suc (suc i)) lt = absurd (omega arith)
 
 -- so two such draws issue serial 1 twice
-issued-twice : (x : Run) → drawsShown (x .replies) ≡ (serialOne ∷ serialOne ∷ []) → OpenOnce x × OnlyOpen x → ⊥
-issued-twice x shown holds =
-    let opened = rw shown at (holds .1) in
-    let once = rw shown at (holds .0 0 (omega arith) (opened 0 (omega arith) .1)) in
+issued-twice : (x : Run) → drawsShown (x .replies) ≡ (serialOne ∷ serialOne ∷ []) → OpenOnce x → OnlyOpen x → ⊥
+issued-twice x shown each only =
+    let opened = rw shown at only in
+    let once = rw shown at (each 0 (omega arith) (opened 0 (omega arith) .1)) in
     let same = once .2 .once 1 0 0 1 0 (in-both 0 (omega arith)) (in-both 1 (omega arith)) in
     omega (arith, same .0)
 
@@ -63,7 +64,7 @@ restored-computed = refl
 no-memory : RulesOut Serials restartFromMemory
 no-memory =
     by-walking Serials restartFromMemory
-    (λ holds. issued-twice (fromEmpty (restartFromMemory effectWalked) drawnAfterCrash) restored-computed (holds drawnAfterCrash))
+    (λ holds. issued-twice (fromEmpty (restartFromMemory effectWalked) drawnAfterCrash) restored-computed (holds drawnAfterCrash .0) (holds drawnAfterCrash .1))
 
 -- the series begins at 1, and its copy at station 0 is held with value v
 unfoldable heldWith : ℕ → Series → Bool
@@ -78,13 +79,13 @@ held-facts v r =
     .0
 
 -- then the serials from 1 to just before v are each in one draw, and no other
-each-once-below : (v : ℕ) (x : Run) → heldWith v (seriesAfter x 0) ≡ true → OpenOnce x → EachOnce (drawsAfter x) 0 1 v
+each-once-below : (v : ℕ) (x : Run) → heldWith v (seriesAfter x 0) ≡ true → OpenOnce x → SerialsOnce (drawsAfter x) 0 1 v
 each-once-below v x computed once =
     let facts = held-facts v (seriesAfter x 0) computed in
     let told = once 0 (omega arith) (facts .0 .0 .0) in
     let next = sym (told .1 .ofCopies 0 (omega arith) (facts .0 .1)) ∙ facts .1 in
-    subst (λ (first : ℕ). EachOnce (drawsAfter x) 0 first v) (facts .0 .0 .1)
-    (subst (λ (n : ℕ). EachOnce (drawsAfter x) 0 (seriesAfter x 0 .first) n) next (told .2))
+    subst (λ (first : ℕ). SerialsOnce (drawsAfter x) 0 first v) (facts .0 .0 .1)
+    (subst (λ (n : ℕ). SerialsOnce (drawsAfter x) 0 (seriesAfter x 0 .first) n) next (told .2))
 
 -- two draws of serial 1, of series 1 and of series 0; the copy of series 0 is not raised
 abbrev firstDraws : List Drawn
@@ -110,6 +111,21 @@ no-first-only : RulesOut Serials commitFirstOnly
 no-first-only =
     by-walking Serials commitFirstOnly
     (λ holds. drawn-and-next (fromEmpty (commitFirstOnly effectWalked) twoDraws) first-computed unraised-computed (holds twoDraws .0))
+
+-- the series is open, and a job locks it
+abbrev ready : Run
+ready = fromEmpty (drawShows effectWalked) (opens ∷ locks 0 [])
+
+-- a DRAW of one serial after these events writes one draw into the output
+ready-computed : length (drawShows effectWalked (ready .plant) (ready .out) draws .draws) ≡ 1
+unfolding computes instead
+ready-computed = refl
+
+-- DRAW that writes the output is ruled out
+no-early-output : RulesOut Serials drawShows
+no-early-output =
+    by-walking Serials drawShows
+    (λ holds. omega (arith, ready-computed, ap length (holds (opens ∷ locks 0 []) .2 draws (λ e. omega (arith, e)))))
 
 -- the copy is raised, and no draw is shown
 none-computed : drawsShown (fromEmpty (drawHandsOut effectWalked) drawnInVain .replies) ≡ []
@@ -160,7 +176,7 @@ commit-computed = refl
 -- COMMIT that does not store is ruled out
 no-unstored : RulesOut Serials commitUnstored
 no-unstored =
-    by-walking Serials commitUnstored (λ holds. issued-twice (fromEmpty (commitUnstored effectWalked) twoJobs) commit-computed (holds twoJobs))
+    by-walking Serials commitUnstored (λ holds. issued-twice (fromEmpty (commitUnstored effectWalked) twoJobs) commit-computed (holds twoJobs .0) (holds twoJobs .1))
 
 -- the token is then at both stations, with an old value at station 1
 grant-computed : twoValues (seriesAfter (fromEmpty (grantByToken effectWalked) comesAgain) 0) ≡ true
@@ -247,6 +263,33 @@ token-lost x lost kept =
     let facts = lost-facts (seriesAfter x 0) lost in
     ⊎-elim (λ w. facts .0 .1 (w .0) (w .1) (w .2)) (λ w. facts .1 (w .0) (w .1) (w .2)) (kept 0 (omega arith) (facts .0 .0))
 
+-- station 0's transfer is undelivered and its receiver is up, but after its message the receiver's copy is void
+unfoldable forgets : Machine → Run → Bool
+forgets m x =
+    undelivered (seriesAfter x 0) 0
+    and isUp (x .plant .copies) (relTo (seriesAfter x 0) 0)
+    and eqb (kind (seriesAt (m (x .plant) (x .out) (message (seriesAfter x 0) 0 0) .plant .copies) 0) (relTo (seriesAfter x 0) 0)) 0
+
+-- then it has not arrived
+not-arrived : (m : Machine) (x : Run) → forgets m x ≡ true → Deliverable m x → ⊥
+unfolding forgets
+not-arrived m x computed holds =
+    let all = both-true _ _ computed in
+    let two = both-true _ _ (all .0) in
+    let way = undelivered-reflects (seriesAfter x 0) 0 .0 (two .0) in
+    way .0 (sym (holds 0 0 (omega arith) (omega arith) way (two .1) .1 .kindThere) ∙ eqb-true _ _ (all .1))
+
+-- the token has gone off, and its message leaves station 1 without it
+forgets-computed : forgets (grantForgets effectWalked) (fromEmpty (grantForgets effectWalked) (opens ∷ sends ∷ [])) ≡ true
+unfolding computes instead forgets
+forgets-computed = refl
+
+-- GRANT that changes nothing is ruled out
+no-forgetting : RulesOut NothingLost grantForgets
+no-forgetting =
+    by-walking NothingLost grantForgets
+    (λ holds. not-arrived (grantForgets effectWalked) (fromEmpty (grantForgets effectWalked) (opens ∷ sends ∷ [])) forgets-computed (holds (opens ∷ sends ∷ []) .1))
+
 -- no token is left
 drop-computed : isLost (seriesAfter (fromEmpty (dropLast effectWalked) onlyShare) 0) ≡ true
 unfolding computes instead onlyShare isLost
@@ -281,7 +324,7 @@ unfolding missed
 not-delivered m x computed holds =
     let all = both-true _ _ computed in
     let two = both-true _ _ (all .0) in
-    let told = holds 0 1 (omega arith) (omega arith) (undelivered-reflects (seriesAfter x 0) 1 .0 (two .0)) (two .1) in
+    let told = holds 0 1 (omega arith) (omega arith) (undelivered-reflects (seriesAfter x 0) 1 .0 (two .0)) (two .1) .0 in
     omega (arith, sym (ap (λ (a : Answer). valueOf a) told) ∙ eqb-true _ _ (all .1))
 
 -- station 0 holds a share, so the message is taken for a repeat
@@ -299,4 +342,4 @@ no-share-lost =
 -- each statement rules out its machines
 pub ruled-out : RuledOut
 ruled-out =
-    ((no-unstored, no-first-only, no-early-serials, no-memory, no-second-arrival), (no-read-without, no-read-elsewhere), (no-early-promote, no-jobs-kept), (no-last-drop, no-voiding-restart, no-share-lost))
+    ((no-unstored, no-first-only, no-early-output, no-early-serials, no-memory, no-second-arrival), (no-read-without, no-read-elsewhere), (no-early-promote, no-jobs-kept), (no-forgetting, no-last-drop, no-voiding-restart, no-share-lost))

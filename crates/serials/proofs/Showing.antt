@@ -6,6 +6,7 @@ use mathlib.Core.Path.{_≡_, refl, ap, _∙_}
 use mathlib.Core.Bool.{Bool, true, false, cond}
 use mathlib.Core.List.{List, [], _∷_, map}
 use lib.Dec.{eqb}
+use borrow.Author.Tests.{ne-eqb}
 use lib.ListN.{length, take}
 use lib.Seq.{sets, sets-eq, take-at}
 use Rattle.words.specs.declared.Answer.{Answer}
@@ -42,6 +43,11 @@ draws-in-output out ds few room =
     ap (λ (l : List ℕ). drawsIn (take (3 * length ds) l)) (sets-eq (shown ds) out 0 (omega arith))
     ∙ ap drawsIn (take-at (shown ds) _ (3 * length ds) three)
     ∙ draws-in-shown ds
+
+-- draws of which nothing is shown are none
+no-draws : (ds : List Draw) → [] ≡ map plain ds → ds ≡ []
+no-draws [] e = refl
+no-draws (d ∷ ds) e = absurd (omega (arith, ap length e))
 
 -- ---- the answer line
 -- no numbers, whatever the kind
@@ -99,3 +105,8 @@ module _ (out : List ℕ) where
       (λ a h few. tells-refused p e a h)
       (λ none. tells-accepted p e (admitted p out e none .isSound))
       (spares-step p out four e .draws)
+
+  -- so a step of another kind than COMMIT commits none
+  pub only-commit : (p : Plant) (e : Event) → FourPlaces (p .jobs) → (e .kind ≡ COMMIT → ⊥) → effect p out e .draws ≡ []
+  unfolding drawsIn
+  only-commit p e four other = no-draws (effect p out e .draws) (rw (ne-eqb (e .kind) COMMIT other) at (tells p e four))

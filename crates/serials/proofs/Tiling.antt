@@ -11,7 +11,7 @@ use lib.ListN.{length}
 use borrow.Author.Tests.{eq-eqb, ne-eqb}
 use Rattle.jobs.specs.Draws.{Draw}
 use Rattle.serials.specs.Draws.{Drawn, drawAt, Belongs, countIn}
-use Rattle.serials.specs.Serials.{EachOnce}
+use Rattle.serials.specs.Serials.{SerialsOnce}
 
 -- a draw of the rulebook, as an answer line shows it
 abbrev pub plain : Draw → Drawn
@@ -93,7 +93,7 @@ once (other x c) n (suc i) k zero m v w = absurd (x (w .ofSeries))
 once (other x c) n (suc i) k (suc j) m v w = let later = once c n i k j m (belongs-earlier v) (belongs-earlier w) in (ap suc (later .0), later .1)
 
 -- all three
-pub chain-once : {s a b : ℕ} {ds : List Drawn} → Chain s a ds b → EachOnce ds s a b
+pub chain-once : {s a b : ℕ} {ds : List Drawn} → Chain s a ds b → SerialsOnce ds s a b
 chain-once c = record { belongs = belongs c; once = once c; noOther = no-other c }
 
 -- ---- their counts

@@ -2,7 +2,7 @@
 -- Assumes nothing.
 use Rattle.rulebook.specs.Steps.{effect}
 use Rattle.rulebook.specs.Run.{Machine}
-use Rattle.wrong.specs.Machines.{commitUnstored, commitFirstOnly, drawHandsOut, restartFromMemory, grantByToken, readWithoutOwn, readAtZero, promoteEarly, crashKeepsJobs, dropLast, restartVoids}
+use Rattle.wrong.specs.Machines.{commitUnstored, commitFirstOnly, drawShows, drawHandsOut, restartFromMemory, grantByToken, readWithoutOwn, readAtZero, promoteEarly, crashKeepsJobs, grantForgets, dropLast, restartVoids}
 use Rattle.serials.specs.Serials.{Serials}
 use Rattle.serials.specs.Reads.{Reads}
 use Rattle.serials.specs.StaysWhole.{StaysWhole}
@@ -18,9 +18,13 @@ abbrev pub RuledOut : Type 0
 RuledOut =
     (RulesOut Serials commitUnstored
     × RulesOut Serials commitFirstOnly
+    × RulesOut Serials drawShows
     × RulesOut Serials drawHandsOut
     × RulesOut Serials restartFromMemory
     × RulesOut Serials grantByToken)
     × (RulesOut Reads readWithoutOwn × RulesOut Reads readAtZero)
     × (RulesOut StaysWhole promoteEarly × RulesOut StaysWhole crashKeepsJobs)
-    × (RulesOut NothingLost dropLast × RulesOut NothingLost restartVoids × RulesOut NothingLost grantByToken)
+    × (RulesOut NothingLost grantForgets
+    × RulesOut NothingLost dropLast
+    × RulesOut NothingLost restartVoids
+    × RulesOut NothingLost grantByToken)

@@ -15,7 +15,7 @@ use Rattle.rulebook.specs.Run.{Machine, fromEmpty}
 use Rattle.rulebook.proofs.Walked.{effectWalked, same-machine}
 use Rattle.rulebook.proofs.Computes.{computes}
 use Rattle.wrong.specs.Machines.{instead, changedAt}
-use Rattle.wrong.specs.Tried.{twoJobs, twoDraws, drawnInVain, drawnAfterCrash, comesAgain, ownDraw, drawnThere, shareUnderWay, crashes, onlyShare, backBeforeAck, shareBack, Try, Right, twoJobsTried, twoDrawsTried, drawnInVainTried, drawnAfterCrashTried, comesAgainTried, ownDrawTried, drawnThereTried, shareUnderWayTried, crashesTried, onlyShareTried, backBeforeAckTried, shareBackTried, TriesRight}
+use Rattle.wrong.specs.Tried.{twoJobs, twoDraws, drawnInVain, drawnAfterCrash, comesAgain, ownDraw, drawnThere, shareUnderWay, crashes, lockedThere, onlyShare, backBeforeAck, shareBack, Try, Right, twoJobsTried, twoDrawsTried, drawnInVainTried, drawnAfterCrashTried, comesAgainTried, ownDrawTried, drawnThereTried, shareUnderWayTried, crashesTried, lockedThereTried, onlyShareTried, backBeforeAckTried, shareBackTried, TriesRight}
 
 -- ---- equality as a test, so that a difference is told at once
 -- two lists have the same entries, as the test of entries says
@@ -81,6 +81,10 @@ crashed : Right crashesTried
 unfolding computes instead changedAt sameList crashes crashesTried
 crashed = by-walking crashesTried refl
 
+locked-there : Right lockedThereTried
+unfolding computes instead changedAt sameList lockedThere lockedThereTried
+locked-there = by-walking lockedThereTried refl
+
 only-share : Right onlyShareTried
 unfolding computes instead changedAt sameList onlyShare onlyShareTried
 only-share = by-walking onlyShareTried refl
@@ -105,6 +109,7 @@ tries-right = (
   drawn-there,
   share-under-way,
   crashed,
+  locked-there,
   only-share,
   back-before-ack,
   share-back,

@@ -12,7 +12,7 @@ use Rattle.words.specs.Numbers.{seriesCount}
 use Rattle.words.specs.Tests.{non, _and_}
 use Rattle.copies.specs.Tables.{Copies, Series, seriesAt, kind, value, held, stands}
 use Rattle.copies.specs.Steps.{putCopy, dropped, arrived, marked, heldCount, matches}
-use Rattle.jobs.specs.Job.{noJob, lockOn}
+use Rattle.jobs.specs.Job.{noJob, withDraw, lockOn}
 use Rattle.jobs.specs.Slots.{countAt}
 use Rattle.jobs.specs.Draws.{Draw, drawsOf, committed}
 use Rattle.rulebook.specs.declared.Event.{Event}
@@ -75,6 +75,16 @@ drawAsked p e =
       station = theStation p e;
     }
 
+-- DRAW notes the count, and writes the serials into the output already
+abbrev pub drawShows : Machine → Machine
+drawShows =
+    doing DRAW
+    (λ p e. record {
+      answer = Done 0;
+      plant = putJob p e (withDraw (theJob p e) (the aSeries e) (the aCount e));
+      draws = drawAsked p e ∷ [];
+    })
+
 -- DRAW hands the serials out: they are stored and written into the output at once, and an ABORT can't take them back
 abbrev pub drawHandsOut : Machine → Machine
 drawHandsOut =
@@ -113,6 +123,10 @@ crashKeepsJobs =
     doing CRASH (λ p e. done (countAt (the aStation e) (p .jobs)) (withCopies p (marked (p .copies) (the aStation e) 0)))
 
 -- ---- nothing is lost
+-- GRANT of a new transfer is answered with 1, and nothing arrives
+abbrev pub grantForgets : Machine → Machine
+grantForgets = doing GRANT (λ p e. done 1 p)
+
 -- DROP never gets refusal 17: the last share may be dropped
 abbrev pub dropLast : Machine → Machine
 dropLast = allowing DROP Others

@@ -19,9 +19,13 @@ opens = event OPEN 0 1 9 0
 abbrev pub arrives : (from to number : ℕ) → Event
 arrives from to number = event GRANT 0 from to number
 
--- the token goes to station 1
+-- the token goes off to station 1
+abbrev pub sends : Event
+sends = event SEND 0 0 1 0
+
+-- and arrives there
 abbrev pub goes : List Event → List Event
-goes more = event SEND 0 0 1 0 ∷ arrives 0 1 1 ∷ more
+goes more = sends ∷ arrives 0 1 1 ∷ more
 
 -- it goes to station 1 and comes back, and neither Release has been acknowledged
 abbrev pub returns : List Event → List Event
@@ -84,6 +88,10 @@ shareUnderWay = opens ∷ demotes ∷ event SHARE 0 0 1 0 ∷ event PROMOTE 0 0 
 -- a job begins, and its station crashes
 unfoldable pub crashes : List Event
 crashes = event BEGIN 0 0 0 0 ∷ event CRASH 0 0 0 0 ∷ []
+
+-- the token goes to station 1, where a job locks it
+unfoldable pub lockedThere : List Event
+lockedThere = opens ∷ goes (locks 1 [])
 
 -- the only share is dropped
 unfoldable pub onlyShare : List Event
@@ -157,15 +165,19 @@ ownDrawTried = gets unchanged (ownDraw ++ reads ∷ []) (quiet 4 (gives 0 2 ∷ 
 unfoldable pub drawnThereTried : Try
 drawnThereTried = gets unchanged (drawnThere ++ reads ∷ []) (quiet 1 (one (one (quiet 3 (draw 1 ∷ quiet 2 (gives 0 2 ∷ []))))))
 
--- whole tables: an event more shows whether they are
+-- whole tables: the share can't be promoted
 unfoldable pub shareUnderWayTried : Try
 shareUnderWayTried = gets unchanged shareUnderWay (quiet 2 (one (gives 17 0 ∷ [])))
 
--- the station can restart
+-- an event more shows whether they are whole: the station can restart
 unfoldable pub crashesTried : Try
 crashesTried = gets unchanged (crashes ++ event RESTART 0 0 0 0 ∷ []) (quiet 1 (one (quiet 1 [])))
 
--- nothing lost: the token is still there to be locked, and a share arrives where there is one
+-- nothing lost: the token has arrived and is locked
+unfoldable pub lockedThereTried : Try
+lockedThereTried = gets unchanged lockedThere (quiet 1 (one (one (quiet 2 []))))
+
+-- the last share can't be dropped
 unfoldable pub onlyShareTried : Try
 onlyShareTried = gets unchanged onlyShare (quiet 2 (gives 17 0 ∷ []))
 
@@ -189,6 +201,7 @@ TriesRight =
     × Right drawnThereTried
     × Right shareUnderWayTried
     × Right crashesTried
+    × Right lockedThereTried
     × Right onlyShareTried
     × Right backBeforeAckTried
     × Right shareBackTried
