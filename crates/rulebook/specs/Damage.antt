@@ -133,13 +133,14 @@ pub record Damage : Type 0 where
 abbrev pub breaks : ℕ → (Plant → Plant) → Damage
 breaks rule change = record { change = change; rules = rule ∷ [] }
 
--- no change, and then changes of one number. They try each part of a rule that can be broken without another rule; a job's station, a lock's
--- series or a drawn count out of its range (W1) always breaks W4 or W5 too.
+-- no change, and then changes of one number, each of which breaks one rule without another. Some parts of a rule can't be broken so: a job's station, a
+-- lock's series or a drawn count out of its range (W1) breaks W4 or W5 too.
 unfoldable pub damages : List Damage
 damages =
     record { change = λ p. p; rules = [] }
-    -- a last number above the greatest; a kind that there isn't; a void copy's value above last + 1, or below first; a sent count above 9,999
+    -- a last number above the greatest, or below the first; a kind that there isn't; a void copy's value above last + 1, or below first; a sent count above 9,999
     ∷ breaks 1 (inCopies (lastAs 0 1_000_000_000))
+    ∷ breaks 1 (inCopies (lastAs 2 0))
     ∷ breaks 1 (inCopies (kindAs 0 5 3))
     ∷ breaks 1 (inCopies (valueAs 0 5 21))
     ∷ breaks 1 (inCopies (valueAs 0 5 9))
