@@ -161,7 +161,7 @@ fn kept_at(
 }
 
 // The tokens counted so far: how many of each kind, the value of the last (0: none yet), and whether all had the same value.
-#[derive(Drop)]
+#[derive(Clone, Copy)]
 struct Tally {
     exclusives: u32,
     shares: u32,

@@ -16,7 +16,7 @@ use rulebook::COMMIT;
 use words::{Answer, JOBS, Serial};
 
 // What a line came to: the answer, how many numbers of the output it shows, and the jobs.
-#[derive(Drop)]
+#[derive(Clone, Copy)]
 struct Judged {
     answer: Answer,
     shown: usize,
@@ -24,7 +24,7 @@ struct Judged {
 }
 
 // The position after an answer line, and the jobs.
-#[derive(Drop)]
+#[derive(Clone, Copy)]
 struct Answered {
     at: usize,
     jobs: [Job; JOBS],

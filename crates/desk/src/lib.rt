@@ -1,4 +1,6 @@
 // The desk: a text of event lines comes in, in pieces of any size, and a text of answer lines goes out.
+#![tactic(auto)]
+
 mod feeding;
 mod keeping;
 
@@ -14,7 +16,7 @@ pub const GREATEST_LINE: u64 = 18_446_744_073_709_551_614;
 pub const KEPT: usize = 65;
 
 // What one call did: how many bytes of the text it used and how many it wrote, the next line's number, and the jobs.
-#[derive(Drop)]
+#[derive(Clone, Copy)]
 pub struct Fed {
     pub used: usize,
     pub written: usize,

@@ -1,5 +1,7 @@
 // Events: which are bad, and what the two layers' calls make of the others. This is the step without the whole check, for tables that are
 // known to be whole; it takes any tables all the same, and answers in any.
+#![tactic(auto)]
+
 mod dispatch;
 mod fields;
 mod naming;

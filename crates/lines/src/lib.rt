@@ -1,5 +1,7 @@
 // Lines: the reader that keeps a text and its place in it, the event that a line says, and the lines of events and answers as they are
 // printed.
+#![tactic(auto)]
+
 mod event_lines;
 mod numbers;
 mod printing;
@@ -22,14 +24,14 @@ pub const EVENT_ROOM: usize = 47;
 pub const ANSWER_ROOM: usize = 167;
 
 // What a line says: an event, or nothing that can be read, which is a BAD EVENT.
-#[derive(Drop)]
+#[derive(Clone, Copy)]
 pub enum Parsed {
     Good(Event),
     Bad,
 }
 
 // A line of a text: where it starts, where it ends and where the next one starts, which is past its LF; or that there is none.
-#[derive(Drop)]
+#[derive(Clone, Copy)]
 pub enum Found {
     Line(usize, usize, usize),
     Nothing,

@@ -9,14 +9,14 @@ use crate::texts::line_from;
 use digits::Number;
 
 // The line reader keeps the text and its place in it.
-#[derive(Drop)]
+#[derive(Clone, Copy)]
 pub struct LineReader<'a> {
     pub text: &'a [u8],
     pub at: usize,
 }
 
 // A number that was read, or that there is none; and the reader moved past it.
-#[derive(Drop)]
+#[derive(Clone, Copy)]
 pub struct NumberRead<'a> {
     pub number: Number,
     pub reader: LineReader<'a>,

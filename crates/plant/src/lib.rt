@@ -1,5 +1,7 @@
 // The public calls over lent tables: an empty plant, a step, the holders of a series. Every call takes any tables, the table of job slots
 // among them, and answers as the rulebook says. The work is the machine's, over sixteen slots by value.
+#![tactic(auto)]
+
 mod holding;
 mod making;
 mod sixteen;

@@ -1,5 +1,7 @@
 // Document 01 as definitions: they stand in specs/, in the paper's order. Here are the kinds of events, and the records that pass
 // through the machine's calls.
+#![tactic(auto)]
+
 use words::{Answer, Serial};
 
 // The seventeen kinds of events.
@@ -39,7 +41,7 @@ pub const RESTART: u32 = 17;
 
 // An event: its kind and its fields in order, zeros in the rest. Laid out as in C, since other programs pass it.
 #[repr(C)]
-#[derive(Drop)]
+#[derive(Clone, Copy)]
 pub struct Event {
     pub kind: u32,
     pub a: Serial,
@@ -49,7 +51,7 @@ pub struct Event {
 }
 
 // Who holds a series: the station set with bit i for station i, how many they are, and the lowest (8 if none).
-#[derive(Drop)]
+#[derive(Clone, Copy)]
 pub struct Holders {
     pub answer: Answer,
     pub set: u8,

@@ -5,7 +5,7 @@ use libc::STDOUT_FILENO;
 use words::{JOBS, Serial};
 
 // What was done with a piece: how many bytes were used, the next line's number, the jobs, and whether all answers went out.
-#[derive(Drop)]
+#[derive(Clone, Copy)]
 pub struct Left {
     pub used: usize,
     pub number: u64,

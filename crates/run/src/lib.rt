@@ -1,4 +1,6 @@
 // The run program's loop: event lines come from a descriptor and are answered on standard output.
+#![tactic(auto)]
+
 mod answering;
 mod reading;
 mod running;

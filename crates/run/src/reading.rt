@@ -2,7 +2,7 @@
 ghost use Rattle.std.specs.Prelude.{◌<◌, ◌≤◌, length};
 
 // Where a piece ends in the buffer, and whether it is the last.
-#[derive(Drop)]
+#[derive(Clone, Copy)]
 pub struct Piece {
     pub end: usize,
     pub last: bool,

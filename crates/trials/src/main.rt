@@ -1,4 +1,6 @@
 // The trials: each list of event lines that an argument names is answered, from an empty plant, after a line with its name.
+#![tactic(auto)]
+
 use libc::STDOUT_FILENO;
 use run::answer_lines;
 

@@ -1,2 +1,3 @@
 // Proofs by hand: what the walks of a function's MIR share, whatever the function does. There is no code here, and no statement: the laws stand in
 // proofs/.
+#![tactic(auto)]
