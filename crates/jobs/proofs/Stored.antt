@@ -157,8 +157,8 @@ draws_raised t s n count [] h = refl
 draws_raised t s n count (l ∷ ls) h =
     let rest = draws_raised t s n count ls (λ i le. h (suc i) (omega arith)) in
     dite (ℕ_discrete l.drawn 0)
-    (λ e. draws_none n l _ ls e ∙ rest ∙ sym (draws_none n l t ls e))
-    (λ ne. draws_some n l _ ls ne ∙ rw (raised_value t s n count (h 0 (omega arith) ne), rest) (sym (draws_some n l t ls ne)))
+    (λ e. draws_none n l (raised t s n count) ls e ∙ rest ∙ sym (draws_none n l t ls e))
+    (λ ne. draws_some n l (raised t s n count) ls ne ∙ rw (raised_value t s n count (h 0 (omega arith) ne), rest) (sym (draws_some n l t ls ne)))
 
 -- the places stored one by one: their draws counted, committed and shown
 stored_draws : (mark n : ℕ) (ls : List Lock) (k : ℕ) (t : Copies) (out : List ℕ) → Adds t n ls → SeriesDiffer ls → store_first (job_of mark n ls) (length ls) (store k t out) ≡ after_draws k t out (draws_on t n ls)
