@@ -1,0 +1,29 @@
+-- `copies::token::promote` meets its contract: its flags are refusals 1 and 3; what they leave is `promote_in`'s. Assumes nothing.
+use mathlib.Core.List.{[], ◌∷◌}
+use mathlib.Core.Path.{refl, sym, ◌∙◌}
+use Rattle.words.specs.Numbers.{station_count, series_count, place_count, received_count}
+use Rattle.words.specs.Tests.{◌or◌}
+use Rattle.copies.specs.Calls.{promote, short_promoter}
+use Rattle.words.proofs.Guards.{stopped, passed, all_long}
+use Rattle.copies.proofs.Guards.{good_copy}
+use Rattle.copies.proofs.token.promote.Goals as goal
+
+pub returns-then-firsts-kinds : goal.returns-then-firsts-kinds
+unfolding promote short_promoter ◌or◌
+returns-then-firsts-kinds c ls vs rv = stopped _ _ _ _ c.if-firsts-kinds.true refl
+
+pub returns-then-bad_copy : goal.returns-then-bad_copy
+unfolding promote short_promoter ◌or◌
+returns-then-bad_copy c ls vs rv = passed _ _ _ _ c.if-firsts-kinds.false (stopped _ _ _ _ (sym c.bad_copy.ensures ∙ c.if-bad_copy.true) refl)
+
+pub promote_in-requires : goal.promote_in-requires
+promote_in-requires c =
+    let long = all_long (series_count, _) ((place_count, _) ∷ (place_count, _) ∷ (place_count, _) ∷ (place_count, _) ∷ (received_count, _) ∷ (station_count, _) ∷ []) c.if-firsts-kinds.false in
+    let fit = good_copy _ _ c.bad_copy.ensures c.if-bad_copy.false in
+    (long.0, long.1.0, long.1.1.0, long.1.1.1.0, long.1.1.1.1.0, long.1.1.1.1.1.0, long.1.1.1.1.1.1, fit.0, fit.1)
+
+pub returns : goal.returns
+unfolding promote short_promoter ◌or◌
+returns c ls vs rv =
+    passed _ _ _ _ c.if-firsts-kinds.false
+    (passed _ _ _ _ (sym c.bad_copy.ensures ∙ c.if-bad_copy.false) (c.promote_in.ensures ls vs rv))
