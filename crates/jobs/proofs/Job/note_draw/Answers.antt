@@ -1,0 +1,17 @@
+-- `jobs::Job::note_draw` meets its contract: the place that locks the series is written, and past the last place nothing is. Assumes nothing.
+use Rattle.jobs.specs.Job.{with_draw}
+use Rattle.jobs.proofs.Places.{length_mapped, put_out}
+use mathlib.Core.Path.{◌≡◌}
+use lib.ListN.{length}
+use Rattle.words.specs.Numbers.{lock_count}
+use Rattle.jobs.proofs.Job.note_draw.Goals as goal
+
+pub returns-then-at-lt-LOCKS : goal.returns-then-at-lt-LOCKS
+unfolding with_draw
+returns-then-at-lt-LOCKS c = rw (← c.lock_place-at.ensures)
+
+pub returns-else-at-lt-LOCKS : goal.returns-else-at-lt-LOCKS
+unfolding with_draw
+returns-else-at-lt-LOCKS c =
+    let own : length c.args.self.locks ≡ lock_count = search length_mapped in
+    rw (← c.lock_place-at.ensures) (put_out _ _ _ own c.if-at-lt-LOCKS.false)

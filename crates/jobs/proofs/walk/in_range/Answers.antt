@@ -1,0 +1,16 @@
+-- `in_range` meets its contract: after i turns, the lock places below i have been tested. Assumes nothing.
+use Prim.Native.Nat.{◌-◌}
+use native.Mathlib.Omega.{arith}
+use Rattle.words.proofs.Laws.{all_none, all_next, all_end, flags}
+use Rattle.jobs.specs.Whole.{W1_job}
+use Rattle.jobs.proofs.walk.in_range.Goals as goal
+
+pub loop-i-init : goal.loop-i-init
+loop-i-init c = (omega arith, all_none _)
+
+pub loop-i-preserved : goal.loop-i-preserved
+loop-i-preserved c = (omega arith, search all_next)
+
+pub returns : goal.returns
+unfolding W1_job
+returns c = search (flags, all_end)

@@ -1,0 +1,16 @@
+-- `places_fine` meets its contract: after i turns, the lock places below i have been tested, and it is known whether all are used.
+-- Assumes nothing.
+use Prim.Native.Nat.{◌-◌}
+use native.Mathlib.Omega.{arith}
+use Rattle.words.proofs.Laws.{all_none, all_next, all_end, flags}
+use Rattle.jobs.proofs.Ways.{place_next}
+use Rattle.jobs.proofs.walk.places_fine.Goals as goal
+
+pub loop-i-init : goal.loop-i-init
+loop-i-init c = (omega arith, all_none _, all_none _)
+
+pub loop-i-preserved : goal.loop-i-preserved
+loop-i-preserved c = (omega arith, search (all_next, flags), search place_next)
+
+pub returns : goal.returns
+returns c = search all_end
