@@ -109,6 +109,8 @@ def main():
             if old in PORTED and not path.endswith((".md", ".edit")):
                 return old
             prose = path.endswith(".md") or (path.endswith(".antt") and "--" in line)
+            if path.endswith(".rt") and line.startswith("ghost use ") and old.isupper():
+                return mapping[old]
             if "-" in old and (path.endswith((".edit", ".rt")) or (prose and line.count("`") % 2 == 0)):
                 return old
             return mapping[old]

@@ -142,7 +142,7 @@ module _ (p : Plant) (out : List ℕ) where
       pass slots Short _ _ _ (le-ltb _ _ w.long.up)
       (pass slots BadEvent _ _ _ (begin_good (job_in w refl) (station_in w refl))
       (same slots Taken _ _ _
-      (λ _. same slots Down _ _ _
+      (λ _. same slots Down _ _ (do_begin p (event BEGIN a b c d))
       (λ _. refl))))
 
   -- LOCKX
@@ -155,7 +155,7 @@ module _ (p : Plant) (out : List ℕ) where
       (λ _. same slots Held _ _ _
       (λ _. same slots Full _ _ _
       (λ _. alike slots Copy _ _ _ _ (same_copy exclusive w a b (job_in w refl) (series_in_lem w refl))
-      (λ _. same slots Locked _ _ _
+      (λ _. same slots Locked _ _ (do_lockx p (event LOCKX a b c d))
       (λ _. refl)))))))
 
   -- LOCKS
@@ -179,7 +179,7 @@ module _ (p : Plant) (out : List ℕ) where
       (same slots None _ _ _
       (λ _. same slots NoLock _ _ _
       (λ _. same slots Drawn _ _ _
-      (λ _. alike slots Range _ _ _ _ (same_rest w a b c (job_in w refl) (series_in_lem w refl))
+      (λ _. alike slots Range _ _ _ (do_draw p (event DRAW a b c d)) (same_rest w a b c (job_in w refl) (series_in_lem w refl))
       (λ _. refl))))))
 
   -- READ

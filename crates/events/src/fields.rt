@@ -3,7 +3,7 @@
 ghost use Rattle.std.specs.Prelude.{◌≡◌, ◌||◌, leb, ltb, eqb};
 ghost use Rattle.words.specs.Numbers.{station_count, series_count, job_count, greatest_serial, greatest_sent};
 ghost use Rattle.rulebook.specs.Tables.{Plant};
-ghost use Rattle.rulebook.specs.Refusals.{BAD-EVENT};
+ghost use Rattle.rulebook.specs.Refusals.{BAD_EVENT};
 ghost use Rattle.events.specs.Unchecked.{takes_job};
 
 use rulebook::{
@@ -49,7 +49,7 @@ fn no_number(number: Serial) -> bool
 
 // Whether an event is bad: the kind says which fields it has, and zeros stand in the rest.
 pub fn is_bad(event: Event) -> bool
-    ensures { (p : Plant) → result ≡ BAD-EVENT p event }
+    ensures { (p : Plant) → result ≡ BAD_EVENT p event }
 {
     let kind = event.kind;
     let a = event.a;

@@ -1,0 +1,45 @@
+-- `copy_event` meets its contract: at each kind the call's own promise. Assumes nothing.
+use borrow.Author.Tests.{ne_eqb}
+use Rattle.events.specs.Unchecked.{copy_event}
+use Rattle.events.proofs.dispatch.copy_event.Goals as goal
+
+pub returns-in-1 : goal.returns-in-1
+unfolding copy_event
+returns-in-1 c = rw c.in-1.is (c.open_series.ensures _ _ _ _ _)
+
+pub returns-in-9 : goal.returns-in-9
+unfolding copy_event
+returns-in-9 c = rw c.in-9.is (c.send.ensures _ _)
+
+pub returns-in-10 : goal.returns-in-10
+unfolding copy_event
+returns-in-10 c = rw c.in-10.is (c.demote.ensures _ _ _ _ _ _ _)
+
+pub returns-in-11 : goal.returns-in-11
+unfolding copy_event
+returns-in-11 c = rw c.in-11.is (c.share.ensures _ _)
+
+pub returns-in-12 : goal.returns-in-12
+unfolding copy_event
+returns-in-12 c = rw c.in-12.is (c.drop.ensures _ _ _ _ _ _ _)
+
+pub returns-in-13 : goal.returns-in-13
+unfolding copy_event
+returns-in-13 c = rw c.in-13.is (c.promote.ensures _ _ _)
+
+pub returns-in-14 : goal.returns-in-14
+unfolding copy_event
+returns-in-14 c = rw c.in-14.is (c.grant.ensures _)
+
+pub returns-in-15 : goal.returns-in-15
+unfolding copy_event
+returns-in-15 c = rw c.in-15.is (c.ack.ensures _ _ _)
+
+pub returns-in-17 : goal.returns-in-17
+unfolding copy_event
+returns-in-17 c = rw c.in-17.is (c.restart.ensures _ _ _ _ _ _ _ _)
+
+pub returns-in_default : goal.returns-in_default
+unfolding copy_event
+returns-in_default c =
+    let r = c.in_default.in_default-own.rest in simp (ne_eqb _ _ r.0.0.0.0.0.0.0.0.1, ne_eqb _ _ r.0.0.0.0.0.0.0.1, ne_eqb _ _ r.0.0.0.0.0.0.1, ne_eqb _ _ r.0.0.0.0.0.1, ne_eqb _ _ r.0.0.0.0.1, ne_eqb _ _ r.0.0.0.1, ne_eqb _ _ r.0.0.1, ne_eqb _ _ r.0.1, ne_eqb _ _ r.1)
