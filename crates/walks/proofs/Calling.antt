@@ -6,8 +6,8 @@ use mathlib.Core.Path.{◌≡◌}
 use mathlib.Core.List.{List, [], ◌∷◌, ◌++◌}
 use lib.ListN.{length}
 use seplogic.Ra.Ura.{Ura}
-use seplogic.Ra.TreeShare.{full_share}
-use mir.Syntax.{Name, Place, Opd as Operand, Body, seq, call, Lifetime, named}
+use base.Fraction.{full_share}
+use mir.Syntax.{Callee, Place, Opd as Operand, Body, seq, call, Lifetime, named}
 use mir.Val.{Val}
 use base.Logic.{SProp, ent, sep, emp, via, id⊢, emp∗, comm∗, fst∗, mono_l}
 use base.Fml.{Lft, GName, Share, ftrue, flft}
@@ -19,8 +19,9 @@ use sound.WpLaws.{FmC}
 use types.Kit.{Item, ‵, raw, ◌⊛◌, mean, ⋆, drop⊢, push, Post, runs, lands, Seq, ◌$◌, ◌∵◌, !, qed, move, drop, use0, use1, split, join, fsplit}
 use types.Kit.{fjoin, feq_l, done}
 use types.Run.{Opds}
-use denote.RattleType.{RattleType, Denots, Valss, flat, owns}
+use denote.RattleType.{RattleType, RowLaws, Denots, Valss, flat, owns}
 use denote.Laws.{Is, Ises, Are, Makess, owns_make}
+use denote.Shares.{Shares}
 use denote.Signature.{Slot, plain, types_at}
 use denote.Slice.{MutSlice, ShrSlice, shr_slice_copy}
 use denote.Steps.{nothing}
@@ -31,7 +32,7 @@ use denote.Triple.Clauses.{Ended, Clauses, Lasts, at_exit, lasts}
 use denote.Triple.End.{Kepts}
 use denote.Triple.Entry.{Args, Res}
 use Rattle.walks.proofs.Walking.{Asked, Result, Tokens, answers}
-use Rattle.walks.proofs.Lending.{table, KeptMut, KeptShr, lends_mut, mut_back, lends_shr, shr_back}
+use Rattle.walks.proofs.Lending.{table, shown, KeptMut, KeptShr, lends_mut, mut_back, lends_shr, shr_back}
 use Rattle.walks.proofs.TableFirst.{TableFirst, as_mut, as_shr}
 
 -- what its `ensures` says of the result and the last values is the fact φ
@@ -69,16 +70,16 @@ abbrev pub ToTable : {M : Type 1} {𝓤 : Ura M} (𝓛 : Logic 𝓤) (s : Slot 1
 ToTable 𝓛 s ss ks S c κ x = Brings 𝓛 (κ, tt) ss (λ a. (c (κ, tt) (x, a)).ghost) (λ a g. (c (κ, tt) (x, a)).requires g)
 
 module _ {M : Type 1} {𝓤 : Ura M} {𝓛 : Logic 𝓤} {K : Type 0} {Γ : List (Item 𝓤)} {E : Env 𝓤 𝓛.H} {xs : List Operand} where
-  -- the operands, read beside nothing more
   open 𝓛 use {H, A}
 
+  -- the operands, read beside nothing more
   beside_nothing : {vs : List Val} → Opds K 𝓛 Γ E xs vs → Opds K 𝓛 (‵ ftrue ∷ Γ) E xs vs
   beside_nothing os = record {
     go = λ Kt h. via 𝓤 (⋆ 𝓛 Γ) (drop⊢ 𝓛 (‵ ftrue) Γ (⋆ 𝓛 Γ) (id⊢ 𝓤 (⋆ 𝓛 Γ)))
         (os.go Kt (via 𝓤 (⋆ 𝓛 (‵ ftrue ∷ Γ)) (via 𝓤 (sep 𝓤 (emp 𝓤) (⋆ 𝓛 Γ)) (emp∗ 𝓤 (⋆ 𝓛 Γ)) (push 𝓛 (‵ ftrue) Γ)) h));
   }
 
-  module _ {C : Calls 𝓤 H} {f : Name} {Λ : Loops 𝓤 H} {p : Post 𝓤 H} {d : Place} {rest : Body} where
+  module _ {C : Calls 𝓤 H} {f : Callee} {Λ : Loops 𝓤 H} {p : Post 𝓤 H} {d : Place} {rest : Body} where
     -- any call: the head i of the context gives what the contract asks, and j stays
     pub asks_beside : K → FmC 𝓤 H 𝓛.laws C → (T : Ended) (c : Clauses 𝓤 T) → Triple 𝓤 (C f) (Asked 𝓛 T c)
         → (y : (Asked 𝓛 T c).Ghost) (i j : Item 𝓤) → ent 𝓤 (mean 𝓛 i) (sep 𝓤 ((Asked 𝓛 T c).pre y) (mean 𝓛 j))
@@ -156,11 +157,11 @@ module _ {M : Type 1} {𝓤 : Ura M} {𝓛 : Logic 𝓤} {K : Type 0} {Γ : List
             use0 𝓛 (raw ((c (κ, tt) (x, w.values)).requires w.ghost)) w.required $ move ! (1 ∷ 0 ∷ []) $ done !
 
 module _ {M : Type 1} {𝓤 : Ura M} {𝓛 : Logic 𝓤} {K : Type 0} {Γ : List (Item 𝓤)} {E : Env 𝓤 𝓛.H}
-    {C : Calls 𝓤 𝓛.H} {f : Name} {xs : List Operand} {Λ : Loops 𝓤 𝓛.H} {p : Post 𝓤 𝓛.H} {d : Place} {rest : Body}
+    {C : Calls 𝓤 𝓛.H} {f : Callee} {xs : List Operand} {Λ : Loops 𝓤 𝓛.H} {p : Post 𝓤 𝓛.H} {d : Place} {rest : Body}
     (R : RattleType) (κ : Lft) (q : Share) (b o : ℕ) (γ : GName) (ys : List R.Denot) (vs : List Val) where
-  -- a table that is lent as `&mut` goes on as `&mut`, and comes back with its last list
   open 𝓛 use {H}
 
+  -- a table that is lent as `&mut` goes on as `&mut`, and comes back with its last list
   pub asks_mut : K → FmC 𝓤 H 𝓛.laws C
       → (ℓ : Lifetime) (ss : List (Slot 1)) (ks : Kepts ss) (S : RattleType) (c : Clauses 𝓤 (TableFirst (as_mut R) ss ks S))
       → Triple 𝓤 (C f) (Asked 𝓛 (TableFirst (as_mut R) ss ks S) c)
@@ -176,37 +177,42 @@ module _ {M : Type 1} {𝓤 : Ura M} {𝓛 : Logic 𝓤} {K : Type 0} {Γ : List
       lends_mut R κ q b o γ ys vs t tt ℓ (named 0) (λ lent ν δ.
       asks_table t fm (as_mut R) ss ks S c known (ν ∷ []) full_share (table R b o δ ys) vs (w ν δ) (λ r ws. φ r ws.0) (tells ν δ)
       (λ i. os ν δ i (‵ (KeptMut R κ q b o γ ys ν δ))) (λ v r ws said is.
-      move t (1 ∷ []) $ fsplit t $ move t (1 ∷ []) $ feq_l t (λ long. move t (1 ∷ 0 ∷ []) $ mut_back R κ q b o γ ys vs t tt ℓ ν δ ws.0 long lent $
+      move t (1 ∷ []) $ fsplit t $ move t (1 ∷ []) $ drop t $ fsplit t $ move t (1 ∷ []) $ feq_l t (λ long. move t (1 ∷ 0 ∷ []) $ mut_back R κ q b o γ ys vs t tt ℓ ν δ ws.0 long lent $
       k v r ws.0 long said is)))
 
-  -- it goes on as `&`, and comes back as it was
-  pub asks_shr : K → FmC 𝓤 H 𝓛.laws C
+  -- it goes on as `&`, and comes back as it was, where the type of its elements has the law by which a `&` is made
+  pub asks_shr : K → FmC 𝓤 H 𝓛.laws C → Shares 𝓛 R κ
       → (ℓ : Lifetime) (ss : List (Slot 1)) (ks : Kepts ss) (S : RattleType) (c : Clauses 𝓤 (TableFirst (as_shr R) ss ks S))
       → Triple 𝓤 (C f) (Asked 𝓛 (TableFirst (as_shr R) ss ks S) c)
-      → (w : (ν : ℕ) (δ : GName) → ToTable 𝓛 (as_shr R) ss ks S c (ν ∷ []) (table R b o δ ys))
-      → (φ : S.Denot → Type 0) → ((ν : ℕ) (δ : GName) → Says 𝓤 (TableFirst (as_shr R) ss ks S) c (ν ∷ [], tt) (table R b o δ ys, (w ν δ).values)
-      (w ν δ).ghost (λ r _. φ r))
-      → ((ν : ℕ) (δ : GName) (i j : Item 𝓤) → Opds K 𝓛 (i ∷ j ∷ Γ) E xs (vs ++ flat (types_at ss (ν ∷ [], tt)) (w ν δ).machine))
+      → (w : (ν : ℕ) → ToTable 𝓛 (as_shr R) ss ks S c (ν ∷ []) (shown R b o ys))
+      → (φ : S.Denot → Type 0) → ((ν : ℕ) → Says 𝓤 (TableFirst (as_shr R) ss ks S) c (ν ∷ [], tt) (shown R b o ys, (w ν).values)
+      (w ν).ghost (λ r _. φ r))
+      → ((ν : ℕ) (i j : Item 𝓤) → Opds K 𝓛 (i ∷ j ∷ Γ) E xs (vs ++ flat (types_at ss (ν ∷ [], tt)) (w ν).machine))
       → ((v : Val) (r : S.Denot) → φ r → Is S r (v ∷ []) → Seq K 𝓛 (‵ (flft κ q) ∷ ‵ ((MutSlice ℓ κ R).own_val (table R b o γ ys) vs) ∷ Γ)
       (lands C Λ E d v rest p))
       → Seq K 𝓛 (‵ (flft κ q) ∷ ‵ ((MutSlice ℓ κ R).own_val (table R b o γ ys) vs) ∷ Γ) (runs C Λ E (seq (call f xs d) rest) p)
-  asks_shr t fm ℓ ss ks S c known w φ tells os k =
-      lends_shr R κ q b o γ ys vs t tt ℓ (named 0) (λ lent ν δ.
-      asks_table t fm (as_shr R) ss ks S c known (ν ∷ []) full_share (table R b o δ ys) vs (w ν δ) (λ r _. φ r) (tells ν δ)
-      (λ i. os ν δ i (‵ (KeptShr R κ q b o γ ys ν))) (λ v r ws said is.
+  asks_shr t fm sh ℓ ss ks S c known w φ tells os k =
+      lends_shr R κ q b o γ ys vs t tt sh ℓ (named 0) (λ lent ν.
+      asks_table t fm (as_shr R) ss ks S c known (ν ∷ []) full_share (shown R b o ys) vs (w ν) (λ r _. φ r) (tells ν)
+      (λ i. os ν i (‵ (KeptShr R κ q b o γ ys ν))) (λ v r ws said is.
       move t (1 ∷ []) $ drop t $ shr_back R κ q b o γ ys vs t tt ℓ ν lent $ k v r said is))
 
-  -- a table that is lent as `&` goes on as a copy, and stays
-  pub asks_copy : K → FmC 𝓤 H 𝓛.laws C → (ss : List (Slot 1)) (ks : Kepts ss) (S : RattleType) (c : Clauses 𝓤 (TableFirst (as_shr R) ss ks S))
+module _ {M : Type 1} {𝓤 : Ura M} {𝓛 : Logic 𝓤} {K : Type 0} {Γ : List (Item 𝓤)} {E : Env 𝓤 𝓛.H}
+    {C : Calls 𝓤 𝓛.H} {f : Callee} {xs : List Operand} {Λ : Loops 𝓤 𝓛.H} {p : Post 𝓤 𝓛.H} {d : Place} {rest : Body}
+    (R : RattleType) (κ : Lft) (q : Share) (b o : ℕ) (ys : List R.Denot) (vs : List Val) where
+  open 𝓛 use {H}
+
+  -- a table that is lent as `&` goes on as a copy, and stays, where what is shared of its elements can be had twice
+  pub asks_copy : K → FmC 𝓤 H 𝓛.laws C → RowLaws R → (ss : List (Slot 1)) (ks : Kepts ss) (S : RattleType) (c : Clauses 𝓤 (TableFirst (as_shr R) ss ks S))
       → Triple 𝓤 (C f) (Asked 𝓛 (TableFirst (as_shr R) ss ks S) c)
-      → (w : ToTable 𝓛 (as_shr R) ss ks S c κ (table R b o γ ys))
-      → (φ : S.Denot → Type 0) → Says 𝓤 (TableFirst (as_shr R) ss ks S) c (κ, tt) (table R b o γ ys, w.values) w.ghost (λ r _. φ r)
+      → (w : ToTable 𝓛 (as_shr R) ss ks S c κ (shown R b o ys))
+      → (φ : S.Denot → Type 0) → Says 𝓤 (TableFirst (as_shr R) ss ks S) c (κ, tt) (shown R b o ys, w.values) w.ghost (λ r _. φ r)
       → ((i j : Item 𝓤) → Opds K 𝓛 (i ∷ j ∷ Γ) E xs (vs ++ flat (types_at ss (κ, tt)) w.machine))
-      → ((v : Val) (r : S.Denot) → φ r → Is S r (v ∷ []) → Seq K 𝓛 (‵ (flft κ q) ∷ ‵ ((ShrSlice (named 0) κ R).own_val (table R b o γ ys) vs) ∷ Γ)
+      → ((v : Val) (r : S.Denot) → φ r → Is S r (v ∷ []) → Seq K 𝓛 (‵ (flft κ q) ∷ ‵ ((ShrSlice (named 0) κ R).own_val (shown R b o ys) vs) ∷ Γ)
       (lands C Λ E d v rest p))
-      → Seq K 𝓛 (‵ (flft κ q) ∷ ‵ ((ShrSlice (named 0) κ R).own_val (table R b o γ ys) vs) ∷ Γ) (runs C Λ E (seq (call f xs d) rest) p)
-  asks_copy t fm ss ks S c known w φ tells os k =
-      let own = (ShrSlice (named 0) κ R).own_val (table R b o γ ys) vs in
-      move t (1 ∷ []) $ use1 𝓛 (‵ own ⊛ ‵ own) ((shr_slice_copy 𝓛 (named 0) κ R).twice (table R b o γ ys) vs) $ split t $ move t (2 ∷ []) $
-      asks_table t fm (as_shr R) ss ks S c known κ q (table R b o γ ys) vs w (λ r _. φ r) tells (λ i. os i (‵ own))
+      → Seq K 𝓛 (‵ (flft κ q) ∷ ‵ ((ShrSlice (named 0) κ R).own_val (shown R b o ys) vs) ∷ Γ) (runs C Λ E (seq (call f xs d) rest) p)
+  asks_copy t fm laws ss ks S c known w φ tells os k =
+      let own = (ShrSlice (named 0) κ R).own_val (shown R b o ys) vs in
+      move t (1 ∷ []) $ use1 𝓛 (‵ own ⊛ ‵ own) ((shr_slice_copy 𝓛 (named 0) κ R laws).twice (shown R b o ys) vs) $ split t $ move t (2 ∷ []) $
+      asks_table t fm (as_shr R) ss ks S c known κ q (shown R b o ys) vs w (λ r _. φ r) tells (λ i. os i (‵ own))
       (λ v r ws said is. move t (1 ∷ []) $ drop t $ k v r said is)

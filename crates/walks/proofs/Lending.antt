@@ -6,22 +6,24 @@ use Prim.Native.Nat.{ℕ}
 use mathlib.Core.List.{List, [], ◌∷◌}
 use lib.ListN.{length}
 use seplogic.Ra.Ura.{Ura}
-use seplogic.Ra.TreeShare.{full_share}
+use base.Fraction.{full_share, left, right}
 use mir.Syntax.{Lifetime}
 use mir.Val.{Val}
 use base.Fml.{Lft, GName, Share, Fml, fsep, flft, fobs, fauth, flent, fobor, fres}
 use base.Logic.{ent}
 use types.Logic.{Logic, sem}
+use contract.BorrowLft.{meet_⊑_left, meet_⊑_right}
 use types.Kit.{Item, Goal, Soaks, Seq, Step, step, ‵, ◌⊛◌, some, later, ◌$◌, move, drop, use1, use3, split, pick, rewrite, fsplit, fjoin, feq_i}
-use types.Kit.{await, qed, ◌∵◌, !, keep, done}
+use types.Kit.{await, qed, ◌∵◌, !, keep, join, use2, done}
 use types.SemTy.{cells, Arr}
 use types.Share.{arr_parts}
 use types.Tokens.{lft_new, lft_end, lent_back}
 use denote.RattleType.{RattleType}
 use denote.Shadow.{pure_i}
 use denote.Laws.{Is, shows}
+use denote.Shares.{Shares}
 use denote.Memory.{mem, shares}
-use denote.Ref.{MutBor}
+use denote.Ref.{Bor, MutBor}
 use denote.Slice.{slice_val, shr_slice_vals, mut_slice_vals, MutSlice, ShrSlice, Room, heres, finally, mut_slice_at, coded_holeys, res-finally}
 use denote.Lend.{Held, lends_slice, slice_back, lends_shr_slice}
 use denote.Steps.{peeks}
@@ -31,6 +33,10 @@ use denote.Index.{row, whole_out, whole_in, opens_slice, closes_slice}
 abbrev pub table : (R : RattleType) → ℕ → ℕ → GName → List R.Denot → MutBor (List R.Denot)
 table R b o δ l = record { ref_ptr = (b, o); ghost_name = δ; now = l }
 
+-- and what a `&` to it shows: that has no name
+abbrev pub shown : (R : RattleType) → ℕ → ℕ → List R.Denot → Bor (List R.Denot)
+shown R b o l = record { ref_ptr = (b, o); now = l }
+
 module _ (R : RattleType) (κ : Lft) (q : Share) (b o : ℕ) (γ : GName) (ys : List R.Denot) where
   -- the table is open: its slots lie apart
   abbrev Open : Fml
@@ -39,10 +45,6 @@ module _ (R : RattleType) (κ : Lft) (q : Share) (b o : ℕ) (γ : GName) (ys : 
   -- what is kept while it is lent on for ν as `&mut`, with the name δ
   abbrev pub KeptMut : ℕ → GName → Fml
   KeptMut ν δ = fsep (flent (ν ∷ []) (Held R (length ys) b o δ)) Open
-
-  -- and as `&`
-  abbrev pub KeptShr : ℕ → Fml
-  KeptShr ν = fsep (flent (ν ∷ []) ((arr_parts (shares R) (length ys)).part full_share ys b o)) Open
 
   module _ (vs : List Val) {M : Type 1} {𝓤 : Ura M} {𝓛 : Logic 𝓤} {K : Type 0} {Γ : List (Item 𝓤)} {G : Goal 𝓤 𝓛.H} where
     -- the table is opened
@@ -83,24 +85,38 @@ module _ (R : RattleType) (κ : Lft) (q : Share) (b o : ℕ) (γ : GName) (ys : 
         use3 𝓛 (later (‵ ((Arr (mem R) (length ys)).own_at zs b o))) (slice_back 𝓛 R (ν ∷ []) δ zs (length ys) b o) $ await t z $
         fsplit t $ drop t $ use1 𝓛 (‵ (row R full_share zs b o)) (whole_out 𝓛 R zs b o) $ closed t z ℓ zs e is $ s)
 
+-- Lent on as `&`, the elements are shared out, by their type's own law. That takes a token of κ, which comes back at once: so half of κ's token stays free.
+module _ (R : RattleType) (κ : Lft) (q : Share) (b o : ℕ) (γ : GName) (ys : List R.Denot) where
+  -- what is kept while it is lent on for ν as `&`
+  abbrev pub KeptShr : ℕ → Fml
+  KeptShr ν = fsep (flent (ν ∷ []) ((arr_parts (shares R) (length ys)).part full_share ys b o)) (fsep (flft κ (right q)) (Open R κ (left q) b o γ ys))
+
+  module _ (vs : List Val) {M : Type 1} {𝓤 : Ura M} {𝓛 : Logic 𝓤} {K : Type 0} {Γ : List (Item 𝓤)} {G : Goal 𝓤 𝓛.H} where
     -- it is lent on as `&`
-    pub lends_shr : K → Soaks G → (ℓ ℓ' : Lifetime)
+    pub lends_shr : K → Soaks G → Shares 𝓛 R κ → (ℓ ℓ' : Lifetime)
         → (Is (MutSlice ℓ κ R) (table R b o γ ys) vs → (ν : ℕ)
-        (δ : GName) → Seq K 𝓛 (‵ (flft (ν ∷ []) full_share) ∷ ‵ ((ShrSlice ℓ' (ν ∷ []) R).own_val (table R b o δ ys) vs) ∷ ‵ (KeptShr ν) ∷ Γ) G)
+        → Seq K 𝓛 (‵ (flft (ν ∷ []) full_share) ∷ ‵ ((ShrSlice ℓ' (ν ∷ []) R).own_val (shown R b o ys) vs) ∷ ‵ (KeptShr ν) ∷ Γ) G)
         → Seq K 𝓛 (‵ (flft κ q) ∷ ‵ ((MutSlice ℓ κ R).own_val (table R b o γ ys) vs) ∷ Γ) G
-    lends_shr t z ℓ ℓ' k =
-        opened t z ℓ (λ is. feq_i t ℕ (length ys) (length ys) refl $ fjoin t $ lft_new t z (λ ν. move t (1 ∷ []) $
-        use1 𝓛 (later (some (λ (δ : GName). ‵ ((ShrSlice ℓ' (ν ∷ []) R).own_val (table R b o δ ys) (shr_slice_vals (table R b o δ ys)))
-        ⊛ ‵ (flent (ν ∷ []) ((arr_parts (shares R) (length ys)).part full_share ys b o)))))
-        (lends_shr_slice 𝓛 R ℓ' (ν ∷ []) full_share ys b o is.0.1) $ await t z $ pick t (λ δ. split t $
-        rewrite t 0 (λ (us : List Val). ‵ ((ShrSlice ℓ' (ν ∷ []) R).own_val (table R b o δ ys) us)) (sym is.0.0) refl $
-        move t (1 ∷ 3 ∷ []) $ fjoin t $ move t (2 ∷ 1 ∷ []) $ k is ν δ)))
+    lends_shr t z s ℓ ℓ' k =
+        use1 𝓛 (‵ (flft κ (left q)) ⊛ ‵ (flft κ (right q))) (𝓛.lfts.lft_split κ q) $ split t $ move t (0 ∷ 2 ∷ 1 ∷ []) $
+        opened R κ (left q) b o γ ys vs t z ℓ (λ is. feq_i t ℕ (length ys) (length ys) refl $ fjoin t $ lft_new t z (λ ν.
+        -- [the token of ν; the elements; the open table; half a token of κ]
+        move t (0 ∷ 3 ∷ []) $ join t $ move t (1 ∷ 0 ∷ []) $
+        use2 𝓛 (later ((‵ ((ShrSlice ℓ' (ν ∷ []) R).own_val (shown R b o ys) (shr_slice_vals (shown R b o ys)))
+        ⊛ ‵ (flent (ν ∷ []) ((arr_parts (shares R) (length ys)).part full_share ys b o))) ⊛ (‵ (flft (ν ∷ []) full_share) ⊛ ‵ (flft κ (right q)))))
+        (lends_shr_slice 𝓛 R ℓ' (ν ∷ []) full_share ys b o is.0.1 κ s ((ν ∷ [], full_share) ∷ (κ, right q) ∷ [])
+        (meet_⊑_right (ν ∷ []) κ) (meet_⊑_left (ν ∷ []) κ)) $ await t z $ split t $ split t $
+        rewrite t 0 (λ (us : List Val). ‵ ((ShrSlice ℓ' (ν ∷ []) R).own_val (shown R b o ys) us)) (sym is.0.0) refl $
+        move t (2 ∷ []) $ split t $
+        -- [the token of ν; half a token of κ; the `&`; what it takes to have the elements back; the open table]
+        move t (1 ∷ 4 ∷ []) $ fjoin t $ move t (3 ∷ 0 ∷ []) $ fjoin t $ move t (1 ∷ 2 ∷ 0 ∷ []) $ k is ν))
 
     -- it comes back as it was
     pub shr_back : K → Soaks G → (ℓ : Lifetime) (ν : ℕ) → Is (MutSlice ℓ κ R) (table R b o γ ys) vs
         → Step K 𝓛 (‵ (flft κ q) ∷ ‵ ((MutSlice ℓ κ R).own_val (table R b o γ ys) vs) ∷ Γ) G (‵ (flft (ν ∷ []) full_share) ∷ ‵ (KeptShr ν) ∷ Γ) G
     shr_back t z ℓ ν is = step (λ s. lft_end t z $ move t (1 ∷ []) $ fsplit t $ move t (2 ∷ 0 ∷ []) $ lent_back t z $ fsplit t $ drop t $
-        closed t z ℓ ys refl is $ s)
+        move t (1 ∷ []) $ fsplit t $ move t (2 ∷ 1 ∷ []) $ closed R κ (left q) b o γ ys vs t z ℓ ys refl is $
+        move t (0 ∷ 2 ∷ []) $ use2 𝓛 (‵ (flft κ q)) (𝓛.lfts.lft_join κ q) $ s)
 
 -- a `&mut [T]` is given up for what says its last list
 module _ {M : Type 1} {𝓤 : Ura M} (𝓛 : Logic 𝓤) (S : RattleType) where

@@ -8,14 +8,14 @@ use seplogic.Ra.Ura.{Ura}
 use mir.Syntax.{Lifetime}
 use mir.Val.{Val}
 use base.Logic.{ent, id⊢, mono∗}
-use base.Fml.{Lft, fsep, feq}
+use base.Fml.{Lft, fsep, feq, fres}
 use types.Logic.{Logic, sem}
-use types.Kit.{‵, ◌$◌, ◌∵◌, !, qed, move, use1, fjoin, feq_i, done}
+use types.Kit.{‵, ◌$◌, ◌∵◌, !, qed, move, drop, use1, fsplit, fjoin, feq_i, done}
 use contract.Lifetimes.{Lfts}
 use denote.RattleType.{RattleType, Denots, Valss, owns}
 use denote.Exit.{Kept, yes, Last, left}
 use denote.Ref.{MutBor}
-use denote.Slice.{MutSlice, finally}
+use denote.Slice.{MutSlice, finally, coded_holeys, heres, res-finally}
 use denote.Signature.{Slot, types_at}
 use denote.Triple.End.{Kepts, Fins, lasts_of}
 use denote.Triple.Walked.{Stay, Stays, fits_of, AllGo}
@@ -67,14 +67,14 @@ module _ {M : Type 1} {𝓤 : Ura M} (𝓛 : Logic 𝓤) where
 
   module _ {n : ℕ} (κs : Lfts n) where
     -- their last values
-    abbrev pub lasts_of : (ss : List (Slot n)) (a : Denots (types_at ss κs)) (vss : Valss (types_at ss κs)) → AllUntouched (types_at ss κs) a vss
+    abbrev pub lasts_of_slots : (ss : List (Slot n)) (a : Denots (types_at ss κs)) (vss : Valss (types_at ss κs)) → AllUntouched (types_at ss κs) a vss
         → Fins κs ss (all_kept ss) a
-    lasts_of [] a vss us = tt
-    lasts_of (s ∷ ss) a vss us = (us.0.last, lasts_of ss a.1 vss.1 us.1)
+    lasts_of_slots [] a vss us = tt
+    lasts_of_slots (s ∷ ss) a vss us = (us.0.last, lasts_of_slots ss a.1 vss.1 us.1)
 
     -- what is owned of all says what the contract says of them
     pub all_untouched : (ss : List (Slot n)) (a : Denots (types_at ss κs)) (vss : Valss (types_at ss κs)) (us : AllUntouched (types_at ss κs) a vss)
-        → ent 𝓤 (sem 𝓛 (owns (types_at ss κs) a vss)) (sem 𝓛 (lasts_of κs ss (all_kept ss) a (lasts_of ss a vss us)))
+        → ent 𝓤 (sem 𝓛 (owns (types_at ss κs) a vss)) (sem 𝓛 (lasts_of κs ss (all_kept ss) a (lasts_of_slots ss a vss us)))
     all_untouched [] a vss us = id⊢ 𝓤 _
     all_untouched (s ∷ ss) a vss us = mono∗ 𝓤 us.0.said (all_untouched ss a.1 vss.1 us.1)
 
@@ -87,6 +87,14 @@ module _ {M : Type 1} {𝓤 : Ura M} (𝓛 : Logic 𝓤) where
         use1 𝓛 (‵ (finally S x.ghost_name x.now)) (gives_up 𝓛 S ℓ κ x.ref_ptr.0 x.ref_ptr.1 x.ghost_name x.now vs) $
         feq_i ! ℕ (length x.now) (length x.now) refl $ move ! (1 ∷ 0 ∷ []) $ fjoin ! $ done !
 
+    -- with the borrow that it was, closed: so it is as the contract has it at exit
+    pub table_left : ent 𝓤 (sem 𝓛 ((MutSlice ℓ κ S).own_val x vs)) (sem 𝓛 (left ((MutSlice ℓ κ S).exit yes) x x.now))
+    table_left =
+        qed 𝓛 (‵ ((MutSlice ℓ κ S).own_val x vs) ∷ []) ∵ fsplit ! $ drop ! $ fsplit ! $
+        use1 𝓛 (‵ (fres x.ghost_name ((coded_holeys S).code (heres S x.now)))) (𝓛.names.obs-res x.ghost_name ((coded_holeys S).code (heres S x.now))) $
+        use1 𝓛 (‵ (finally S x.ghost_name x.now)) (res-finally 𝓛 ℓ κ S x.ghost_name x.now) $
+        feq_i ! ℕ (length x.now) (length x.now) refl $ move ! (1 ∷ 0 ∷ []) $ fjoin ! $ fjoin ! $ done !
+
     -- so it is untouched
     abbrev pub table_untouched : Untouched (MutSlice ℓ κ S) x vs
-    table_untouched = record { last = x.now; said = table_said }
+    table_untouched = record { last = x.now; said = table_left }

@@ -48,9 +48,9 @@ TableFirst s ss ks S = record { signature = record { lifetimes = 1; outlives = [
 
 module _ {M : Type 1} {𝓤 : Ura M} (𝓛 : Logic 𝓤) (s : Slot 1) (ss : List (Slot 1)) (ks : Kepts ss) (S : RattleType)
     (c : Clauses 𝓤 (TableFirst s ss ks S)) (st : Stay s yes) where
-  -- such a function
   open 𝓛 use {H, A}
 
+  -- such a function
   abbrev T : Ended
   T = TableFirst s ss ks S
 
@@ -86,8 +86,8 @@ module _ {M : Type 1} {𝓤 : Ura M} (𝓛 : Logic 𝓤) (s : Slot 1) (ss : List
         (WpFn 𝓤 H 𝓣.C 𝓣.Λ f (flat (types_at (s ∷ ss) (κ, tt)) (passed T sp (κ, tt) (x, a)))
         (Exit κ q x (passed T sp (κ, tt) (x, a)).0 a (passed T sp (κ, tt) (x, a)).1 g)))
         → Meets 𝓛 T.signature (WpFn 𝓤 H 𝓣.C 𝓣.Λ f) (closing 𝓛 T c)
-    table_meets tells table-goes Rest-goes k =
-        walk_met 𝓛 T kept c f 𝓣 sp (table-goes, Rest-goes) tells (λ κs qs bounds a g are.
+    table_meets tells table_goes rest_goes k =
+        walk_met 𝓛 T kept c f 𝓣 sp (table_goes, rest_goes) tells (λ κs qs bounds a g are.
         let Table : SProp 𝓤 = sem 𝓛 ((s.row κs).own_val a.0 (passed T sp κs a).0) in
         let Values : SProp 𝓤 = sem 𝓛 (owns (types_at ss κs) a.1 (passed T sp κs a).1) in
         via 𝓤 (sep 𝓤 (sep 𝓤 (A.lft κs.0 qs.0) Table) ((c κs a).requires g))
@@ -95,9 +95,9 @@ module _ {M : Type 1} {𝓤 : Ura M} (𝓛 : Logic 𝓤) (s : Slot 1) (ss : List
         (k κs.0 qs.0 a.0 a.1 g are))
 
 module _ {M : Type 1} {𝓤 : Ura M} (𝓛 : Logic 𝓤) (R : RattleType) (ss : List (Slot 1)) (ks : Kepts ss) where
-  -- a table lent as `&mut` ends with a list of the same length
   open 𝓛 use {A}
 
+  -- a table lent as `&mut` ends with a list of the same length
   pub mut_left : (c : Clauses 𝓤 (TableFirst (as_mut R) ss ks unit)) (κ : Lft) (q : Share) (b o : ℕ) (γ : GName) (ys zs : List R.Denot)
       (vs : List Val) (a : Denots (types_at ss (κ, tt))) (vss : Valss (types_at ss (κ, tt)))
       (g : (c (κ, tt) (table R b o γ ys, a)).ghost) (ns : Fins (κ, tt) ss ks a) → length zs ≡ length ys

@@ -6,9 +6,9 @@ use mathlib.Core.Path.{◌≡◌, refl, ap, subst, ◌∙◌}
 use mathlib.Core.List.{List, [], ◌∷◌, map}
 use mathlib.Core.Option.{some as there}
 use seplogic.Ra.Ura.{Ura}
-use seplogic.Ra.TreeShare.{full_share}
+use base.Fraction.{full_share}
 use mir.Fields.{get_v}
-use mir.Syntax.{Name, Sym, Ty, Tys, ty_struct, Place, place, field, Opd as Operand, copy, Rv as RValue, Body, seq, assign, call, Fn}
+use mir.Syntax.{Callee, Sym, Ty, Tys, ty_struct, Place, place, field, Opd as Operand, copy, Rv as RValue, Body, seq, assign, call, Fn}
 use mir.Val.{Val, Vals as Row, vstruct}
 use base.Logic.{SProp, ent, sep, emp, via, mono_r, fst∗}
 use base.Fml.{Share, Fml, fat, fdies}
@@ -39,9 +39,9 @@ abbrev entry : ℕ → ℕ
 entry i = 2 + (i + i)
 
 module _ {M : Type 1} {𝓤 : Ura M} {𝓛 : Logic 𝓤} {K : Type 0} where
-  -- the function is entered
   open 𝓛 use {H}
 
+  -- the function is entered
   pub begins : {hold : Item 𝓤} → K → (C : Calls 𝓤 H) (Λ : Loops 𝓤 H) (f : Fn) (vs : List Val) (P : Val → SProp 𝓤) → ArgsFit f.locals vs
       → ((bs : Blocks f.locals) → Seq K 𝓛 (hold ∷ in_order 𝓛 (env f.locals bs) (room ∷ map has vs))
       (runs C Λ (env f.locals bs) f.body (at_ret (env f.locals bs) P)))
@@ -106,9 +106,9 @@ module _ {M : Type 1} {𝓤 : Ura M} {𝓛 : Logic 𝓤} {K : Type 0} {Γ : List
 
 module _ {M : Type 1} {𝓤 : Ura M} (𝓛 : Logic 𝓤) (T : Ended) (c : Clauses 𝓤 T) (y : (Asked 𝓛 T c).Ghost)
     (ℓ : Lendable 𝓛) where
-  -- what a walk holds
   open 𝓛 use {H}
 
+  -- what a walk holds
   abbrev Hold : Item 𝓤
   Hold = Tokens 𝓛 T c y ⊛ ‵ ℓ.what
 
@@ -117,7 +117,7 @@ module _ {M : Type 1} {𝓤 : Ura M} (𝓛 : Logic 𝓤) (T : Ended) (c : Clause
   params = owns (types_at T.signature.params y.0.0) y.0.3 y.0.4
 
   -- a function of this contract is called at the caller's lifetimes, is passed what was lent, and says that the result is x
-  pub asks_lent : {K : Type 0} {Γ : List (Item 𝓤)} {E : Env 𝓤 H} {C : Calls 𝓤 H} {Λ : Loops 𝓤 H} {f : Name} {xs : List Operand} {d : Place} {rest : Body} {p : Post 𝓤 H}
+  pub asks_lent : {K : Type 0} {Γ : List (Item 𝓤)} {E : Env 𝓤 H} {C : Calls 𝓤 H} {Λ : Loops 𝓤 H} {f : Callee} {xs : List Operand} {d : Place} {rest : Body} {p : Post 𝓤 H}
       → K → (x : (Result 𝓛 T c y).Denot) (s : Spelled (Result 𝓛 T c y)) → Says 𝓤 T c y.0.0 y.0.3 y.1 (λ r _. r ≡ x)
       → ent 𝓤 (sem 𝓛 ℓ.what) (sem 𝓛 params) → ent 𝓤 (emp 𝓤) ((c y.0.0 y.0.3).requires y.1)
       → FmC 𝓤 H 𝓛.laws C → Triple 𝓤 (C f) (Asked 𝓛 T c) → Opds K 𝓛 (Hold ∷ Γ) E xs ((Asked 𝓛 T c).args y)
@@ -142,9 +142,9 @@ module _ {M : Type 1} {𝓤 : Ura M} (𝓛 : Logic 𝓤) (T : Ended) (c : Clause
 -- walks of this contract, with the parameters' machine values spelled by sp
 module _ {M : Type 1} {𝓤 : Ura M} (𝓛 : Logic 𝓤) (T : Ended) (c : Clauses 𝓤 T) (fn : Fn) (𝓣 : Tables 𝓤 𝓛.H)
     (sp : (κs : Lfts T.signature.lifetimes) → Spells (Types T κs)) where
-  -- one from what the parameters lend, at each choice, meets the contract
   open 𝓛 use {H}
 
+  -- one from what the parameters lend, at each choice, meets the contract
   pub met : AllSilent 𝓛 T.signature.params T.kept
       → ((κs : Lfts T.signature.lifetimes) → Tellss (Types T κs) (Ises (Types T κs)) (sp κs))
       → (P : (κs : Lfts T.signature.lifetimes) → Args T.signature κs → Fml)

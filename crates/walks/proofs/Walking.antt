@@ -7,7 +7,7 @@ use mathlib.Core.Option.{some as there}
 use mathlib.Core.List.{List, [], ◌∷◌, map}
 use lib.Dec.{T as Holds}
 use seplogic.Ra.Ura.{Ura}
-use seplogic.Ra.TreeShare.{full_share}
+use base.Fraction.{full_share}
 use mir.Syntax.{Ty, Tys, ty_struct, ty_ref, Sym, Lifetime, Mutability, Local, local, Fn, Body, seq, assign, place, field, deref, copy, addr_of, aggregate, Rv as RightSide}
 use mir.Fields.{get_v, set_v}
 use mir.Val.{Val, Vals as Row, WT, has_ty, vstruct, vptr}
@@ -49,9 +49,9 @@ behind [] k = k
 behind (e ∷ E) k = behind E (suc (suc k))
 
 module _ {M : Type 1} {𝓤 : Ura M} (𝓛 : Logic 𝓤) where
-  -- what stands there
   open 𝓛 use {H}
 
+  -- what stands there
   nth_behind : (E : Env 𝓤 H) (k : ℕ) (Γ : List (Item 𝓤)) → nth 𝓛 (behind E k) (locals 𝓛 E [] Γ) ≡ nth 𝓛 k Γ
   nth_behind [] k Γ = refl
   nth_behind (e ∷ E) k Γ = nth_behind E (suc (suc k)) (‵ (froom e.0 e.1 zero) ∷ ‵ (fdies e.0 e.1) ∷ Γ)
@@ -97,9 +97,9 @@ abbrev pub Room : {M : Type 1} (𝓤 : Ura M) (H : Heap 𝓤) → Env 𝓤 H →
 Room 𝓤 H E i = ‵ (froom (spot_of 𝓤 H E i).0 (spot_of 𝓤 H E i).1 zero)
 
 module _ {M : Type 1} {𝓤 : Ura M} {𝓛 : Logic 𝓤} {K : Type 0} where
-  -- one argument is stored, behind the room for the later locals
   open 𝓛 use {H}
 
+  -- one argument is stored, behind the room for the later locals
   stores : K → (E : Env 𝓤 H) (τ : Ty) (b : ℕ) (v : Val) (Γ : List (Item 𝓤)) → Fits τ v
       → Writes K 𝓛 (locals 𝓛 E [] (‵ (froom τ b zero) ∷ Γ)) τ b zero v (locals 𝓛 E [] (‵ (fat full_share τ b zero v) ∷ Γ))
   stores t E τ b v Γ wt =
@@ -162,9 +162,9 @@ abbrev Lender : {M : Type 1} (𝓤 : Ura M) → Share → Lifetime → Mutabilit
 Lender 𝓤 q ℓ m τ l b o n = ‵ (fat q (slice_ty (ty_ref ℓ m τ)) l zero (slice_val (b, o) n))
 
 module _ {M : Type 1} {𝓤 : Ura M} (𝓛 : Logic 𝓤) (Γ : List (Item 𝓤)) (E : Env 𝓤 𝓛.H) (y j b o : ℕ) where
-  -- local y, at place j, holds the pointer for a moment
   open 𝓛 use {H}
 
+  -- local y, at place j, holds the pointer for a moment
   abbrev Pointed : List (Item 𝓤)
   Pointed = put 𝓛 j (Cell 𝓤 H E y full_share (vptr b o)) Γ
 
@@ -174,9 +174,9 @@ module _ {M : Type 1} {𝓤 : Ura M} (𝓛 : Logic 𝓤) (Γ : List (Item 𝓤))
 
 module _ {M : Type 1} {𝓤 : Ura M} {𝓛 : Logic 𝓤} {K : Type 0} {Γ : List (Item 𝓤)} {E : Env 𝓤 𝓛.H} {C : Calls 𝓤 𝓛.H}
     {Λ : Loops 𝓤 𝓛.H} {p : Post 𝓤 𝓛.H} {rest : Body} {x y z : ℕ} {q : Share} {ℓ : Lifetime} {m : Mutability} {τ σ : Ty} {l b o n : ℕ} where
-  -- of local x, at place i, through local y into local z
   open 𝓛 use {H}
 
+  -- of local x, at place i, through local y into local z
   pub lends_on : K → (i j k : ℕ) → spot_of 𝓤 H E x ≡ (slice_ty (ty_ref ℓ m τ), l, zero) → nth 𝓛 i Γ ≡ Lender 𝓤 q ℓ m τ l b o n
       → nth 𝓛 j Γ ≡ Room 𝓤 H E y → Fits (spot_of 𝓤 H E y).0 (vptr b o)
       → nth 𝓛 i (Pointed 𝓛 Γ E y j b o) ≡ Lender 𝓤 q ℓ m τ l b o n
@@ -186,12 +186,12 @@ module _ {M : Type 1} {𝓤 : Ura M} {𝓛 : Logic 𝓤} {K : Type 0} {Γ : List
       → Step K 𝓛 (put 𝓛 j (Room 𝓤 H E y) (LentOn 𝓛 Γ E y j b o z k n)) (runs C Λ E rest p)
       Γ (runs C Λ E (seq (assign (place y []) (addr_of (place x (field 0 ∷ deref σ ∷ []))))
       (seq (assign (place z []) (aggregate (copy (place y []) ∷ copy (place x (field 1 ∷ [])) ∷ []))) rest)) p)
-  lends_on t i j k is at_i at_j by at-i' at-j' at-k to at-j'' =
+  lends_on t i j k is at_i at_j by at_i' at_j' at_k to at_j'' =
       step (λ s.
       assigns t (addr t (from t (subst (λ (sp : Spot 𝓤 H). PlaceWalks K 𝓛 Γ E sp (field 0 ∷ deref σ ∷ []) (σ, b, o)) (sym is)
       (fld t refl (hop t (field_at_lem t i 0 at_i refl) (stop t)))))) (from t (stop t)) (init t j at_j by) $
-      assigns t (agg t (and_then t (cell t j at-j') (and_then t (field_cell t i is at-i' refl) (no_more t)))) (from t (stop t)) (init t k at-k to) $
-      forget t j at-j'' $ s)
+      assigns t (agg t (and_then t (cell t j at_j') (and_then t (field_cell t i is at_i' refl) (no_more t)))) (from t (stop t)) (init t k at_k to) $
+      forget t j at_j'' $ s)
 
 -- the value of a right side may be written another way: what a walk reads there is only its value
 pub gives : {M : Type 1} {𝓤 : Ura M} {𝓛 : Logic 𝓤} {K : Type 0} {Γ : List (Item 𝓤)} {E : Env 𝓤 𝓛.H} {rv : RightSide} {v u : Val}
@@ -200,9 +200,9 @@ gives {𝓛 = 𝓛} {K = K} {Γ = Γ} {E = E} {rv = rv} t e r = subst (λ (w : V
 
 -- ---- a callee has answered
 module _ {M : Type 1} {𝓤 : Ura M} (𝓛 : Logic 𝓤) (T : Ended) (c : Clauses 𝓤 T) where
-  -- a contract by its clauses
   open 𝓛 use {H}
 
+  -- a contract by its clauses
   abbrev pub Asked : Contract 𝓤
   Asked = triple_of 𝓛 T.signature (closing 𝓛 T c)
 
@@ -250,8 +250,8 @@ module _ {n : ℕ} (h : (s : Slot n) (k : Kept) → Stay s k) where
   -- where nothing is owed of one, nothing is owed of all
   pub each_fits : (κs : Lfts n) → ((s : Slot n) (k : Kept) (x : (s.row κs).Denot) (w : Last ((s.row κs).exit k) x) → (h s k).fit κs x w)
       → (ss : List (Slot n)) (ks : Kepts ss) (a : Denots (types_at ss κs)) (ws : Fins κs ss ks a) → fits_of κs ss ks (each ss ks) a ws
-  each_fits κs f [] ks a ws = tt
-  each_fits κs f (s ∷ ss) ks a ws = (f s ks.0 a.0 ws.0, each_fits κs f ss ks.1 a.1 ws.1)
+  each_fits ls f [] ks a ws = tt
+  each_fits ls f (s ∷ ss) ks a ws = (f s ks.0 a.0 ws.0, each_fits ls f ss ks.1 a.1 ws.1)
 
 -- ---- a walk meets the contract
 module _ (T : Ended) where
@@ -267,9 +267,9 @@ module _ (T : Ended) where
 module _ {M : Type 1} {𝓤 : Ura M} (𝓛 : Logic 𝓤) (T : Ended) (hs : Stays T.signature.params T.kept)
     (c : Clauses 𝓤 T)
     (f : Fn) (𝓣 : Tables 𝓤 𝓛.H) (sp : (κs : Lfts T.signature.lifetimes) → Spells (Types T κs)) where
-  -- at whatever the function is passed, where what is had of the parameters at exit is hs
   open 𝓛 use {H}
 
+  -- at whatever the function is passed, where what is had of the parameters at exit is hs
   pub walk_met : AllGo 𝓛 T.signature.lifetimes T.signature.params T.kept hs
       → ((κs : Lfts T.signature.lifetimes) → Tellss (Types T κs) (Ises (Types T κs)) (sp κs))
       → ((κs : Lfts T.signature.lifetimes) (qs : Shares T.signature.lifetimes)
@@ -306,8 +306,8 @@ module _ {M : Type 1} {𝓤 : Ura M} (𝓛 : Logic 𝓤) {n : ℕ} where
   -- what is had is had for nothing
   pub none_had : (κs : Lfts n) (ss : List (Slot n)) (ks : Kepts ss) (a : Denots (types_at ss κs)) (ws : Fins κs ss ks a) (vss : Valss (types_at ss κs))
       → ent 𝓤 (emp 𝓤) (sem 𝓛 (has_of κs ss ks (dropped ss ks) a ws vss))
-  none_had κs [] ks a ws vss = id⊢ 𝓤 (emp 𝓤)
-  none_had κs (s ∷ ss) ks a ws vss = via 𝓤 _ (emp∗ 𝓤 (emp 𝓤)) (mono_r 𝓤 (emp 𝓤) (none_had κs ss ks.1 a.1 ws.1 vss.1))
+  none_had ls [] ks a ws vss = id⊢ 𝓤 (emp 𝓤)
+  none_had ls (s ∷ ss) ks a ws vss = via 𝓤 _ (emp∗ 𝓤 (emp 𝓤)) (mono_r 𝓤 (emp 𝓤) (none_had ls ss ks.1 a.1 ws.1 vss.1))
 
 module _ {M : Type 1} {𝓤 : Ura M} (𝓛 : Logic 𝓤) (T : Ended) (c : Clauses 𝓤 T) where
   -- what is to hold of the value returned, where nothing is kept
