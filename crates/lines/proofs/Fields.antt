@@ -65,6 +65,9 @@ module _ (line : List ℕ) (at : ℕ) (wanted : Bool) where
   unfolding field_at
   field_read r q e h g = rw (not-false wanted e, lt-ltb at (length line) h, eq-eqb (get_or line at 0) space g) q
 
+-- what a field comes to, by the way that it went
+pub ruleset field_ways = (field_off, field_past, field_gap, field_read)
+
 -- the fields of a line one by one, each by what was read at its place
 module _ (line : List ℕ) (kind count at : ℕ) where
   -- the first is missing
@@ -139,3 +142,6 @@ module _ (line : List ℕ) (x : Number) (e : x ≡ number_at line 0) where
     pub line_known : (r : Parsed) → (n ≡ 0 → ⊥) → r ≡ fields_from line kind n at → length line ≤ longest_line → r ≡ event_line line
     unfolding event_line
     line_known r s q h = rw (le-ltb longest_line (length line) h, sym e ∙ g, ← f, ne_eqb n 0 s) q
+
+-- what a line comes to, by the way that it went
+pub ruleset line_ways = (line_long, line_unread, line_unknown, line_known)

@@ -11,6 +11,7 @@ use rulebook::{Event, RESTART};
 const FIELDS: [usize; 18] = [0, 4, 2, 2, 2, 3, 2, 1, 1, 3, 2, 3, 2, 2, 4, 4, 1, 1];
 
 // How many fields an event of a kind has; 0 where there is no such kind.
+#[tactic(auto, using(crate::proofs::Fields::count_none))]
 pub fn fields_of(kind: u32) -> usize
     ensures { result ≡ field_count kind }
 {
@@ -21,6 +22,7 @@ pub fn fields_of(kind: u32) -> usize
 }
 
 // The number after a space at a position of a line, or 0 and no step where no field is wanted.
+#[tactic(auto, using(crate::proofs::Fields::field_ways))]
 fn field(line: &[u8], at: usize, wanted: bool) -> Number
     ensures { result ≡ field_at line.now at wanted }
 {
@@ -59,6 +61,7 @@ fn fields_from(line: &[u8], kind: u32, count: usize, at: usize) -> Parsed
 }
 
 // The event that a line says; the line is given without its end.
+#[tactic(auto, using(crate::proofs::Fields::line_ways))]
 pub fn event_line(line: &[u8]) -> Parsed
     ensures { result ≡ event_line line.now }
 {

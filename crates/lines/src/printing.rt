@@ -18,6 +18,7 @@ fn wide(x: Serial) -> u64
 }
 
 // n at a position of out; the position after it.
+#[tactic(auto, using(crate::proofs::Puts::with_room))]
 fn put_number(out: &mut [u8], at: usize, n: u64) -> usize
     requires { at + length (decimal n) ≤ length out.old }
     ensures value { result ≡ at + length (decimal n) }
@@ -85,6 +86,7 @@ fn least(a: usize, b: usize) -> usize
 
 // An answer line at a position of out: the line's number, the answer's code and value, and the first many numbers of row, at most
 // twelve. It asks for room for any answer line; else out stays as it is.
+#[tactic(auto, using(digits::proofs::Laws::no_room))]
 pub fn write_answer(
     out: &mut [u8],
     at: usize,
@@ -109,6 +111,7 @@ pub fn write_answer(
 
 // An event line at a position of out: the kind and exactly its fields. It asks for room for any event line; else out stays
 // as it is.
+#[tactic(auto, using(digits::proofs::Laws::no_room))]
 pub fn write_event(out: &mut [u8], at: usize, event: Event) -> Wrote
     ensures value { result ≡ wrote_at event_room (length out.old) at (event_text event) }
     ensures out_after { out.new ≡ written_at event_room out.old at (event_text event) }

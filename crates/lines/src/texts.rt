@@ -5,6 +5,7 @@ ghost use Rattle.lines.specs.Texts.{line_end, line_at};
 use crate::Found;
 
 // Where the line ends that goes on at a position: at its LF, or at the end of the text.
+#[tactic(auto, using(crate::proofs::Ends::end_start))]
 fn end_from(text: &[u8], at: usize) -> usize
     ensures { result ≡ line_end text.now at }
 {
@@ -19,6 +20,7 @@ fn end_from(text: &[u8], at: usize) -> usize
 }
 
 // The line that starts at a position.
+#[tactic(auto, using(crate::proofs::Ends::found_ways))]
 pub fn line_from(text: &[u8], at: usize) -> Found
     ensures { result ≡ line_at text.now at }
 {
