@@ -51,8 +51,8 @@ comes_walk room line start d [] rest quiet = comes_halt d (line ++ []) rest star
 comes_walk room line start d (b ∷ t) rest quiet =
     walk_cases (Comes d (line ++ (b ∷ t)) rest start) room line start d b t (λ q g. comes_halt d (line ++ (b ∷ t)) rest start)
     (λ q g. rw q
-    (comes_said d line t rest start _ quiet (walk_bounds _ [] (start + length line + 1) (after d line) t).0
-    (comes_walk _ [] (start + length line + 1) (after d line) t rest none_empty)))
+    (comes_said d line t rest start _ quiet (walk_bounds (room - length (says d line)) [] (start + length line + 1) (after d line) t).0
+    (comes_walk (room - length (says d line)) [] (start + length line + 1) (after d line) t rest none_empty)))
     (λ q. rw (append_assoc line (b ∷ []) t) at (comes_walk room (line ++ (b ∷ [])) start d t rest (none_more line b quiet q)))
 
 -- ---- an act
