@@ -1,21 +1,20 @@
 // Answering: all whole lines of a piece, and their answers written.
 use desk::feed;
 use jobs::Job;
-use libc::STDOUT_FILENO;
+use std::io;
+use std::io::Write;
 use words::{JOBS, Serial};
 
-// What was done with a piece: how many bytes were used, the next line's number, the jobs, and whether all answers went out.
+// What was done with a piece: how many bytes were used, the next line's number, and the jobs.
 #[derive(Clone, Copy)]
 pub struct Left {
     pub used: usize,
     pub number: u64,
     pub jobs: [Job; JOBS],
-    pub written: bool,
 }
 
-// Answers the whole lines of a piece; the answers of one call are written before the next, and all before the piece is done with. A failed
-// write is told on standard error.
-pub fn answer_all(
+// Answers the whole lines of a piece; the answers of one call are written before the next, and all before the piece is done with.
+pub fn answer_all<W: Write>(
     piece: &[u8],
     number: u64,
     jobs: [Job; JOBS],
@@ -31,7 +30,8 @@ pub fn answer_all(
     up: &mut [u32],
     row: &mut [Serial],
     out: &mut [u8],
-) -> Left {
+    output: &mut W,
+) -> io::Result<Left> {
     let mut used = 0;
     let mut count = number;
     let mut slots = jobs;
@@ -58,28 +58,15 @@ pub fn answer_all(
         count = fed.number;
         slots = fed.jobs;
         if more == 0 {
-            return Left {
-                used,
-                number: count,
-                jobs: slots,
-                written: true,
-            };
+            break;
         }
         used += more;
-        if !io::write_all(STDOUT_FILENO, &out[..written]) {
-            os::fail(b"druvisha: writing");
-            return Left {
-                used,
-                number: count,
-                jobs: slots,
-                written: false,
-            };
-        }
+        output.write_all(&out[..written])?;
+        output.flush()?;
     }
-    Left {
+    Ok(Left {
         used,
         number: count,
         jobs: slots,
-        written: true,
-    }
+    })
 }

@@ -1,5 +1,8 @@
 // Reading: one piece of the text, after the bytes that are held.
-ghost use Rattle.std.specs.Prelude.{◌<◌, ◌≤◌, length};
+ghost use Rattle.std.specs.Prelude.{◌<◌, ◌≤◌, IfOk, length};
+
+use std::io;
+use std::io::Read;
 
 // Where a piece ends in the buffer, and whether it is the last.
 #[derive(Clone, Copy)]
@@ -8,30 +11,24 @@ pub struct Piece {
     pub last: bool,
 }
 
-// One piece is read after the bytes that are held. At the end of the input, a last line that lacks its LF gets it; after a failed read,
-// which is told on standard error, nothing is left to answer.
-pub fn arrived(input: i32, buf: &mut [u8], held: usize) -> Piece
+// One piece is read after the bytes that are held. At the end of the input, a last line that lacks its LF gets it.
+pub fn arrived<R: Read>(input: &mut R, buf: &mut [u8], held: usize) -> io::Result<Piece>
     requires { held < length buf.old }
-    ensures { result.end ≤ length buf.new }
+    ensures { IfOk result (λ piece. piece.end ≤ length buf.new) }
 {
-    let got = libc::read(input, &mut buf[held..]);
-    if got < 0 {
-        os::fail(b"druvisha: reading");
-        return Piece { end: 0, last: true };
-    }
-    let count = io::count(got, &buf[held..]);
+    let count = input.read(&mut buf[held..])?;
     if 0 < count {
-        return Piece {
+        return Ok(Piece {
             end: held + count,
             last: false,
-        };
+        });
     }
     if held == 0 {
-        return Piece { end: 0, last: true };
+        return Ok(Piece { end: 0, last: true });
     }
     buf[held] = b'\n';
-    Piece {
+    Ok(Piece {
         end: held + 1,
         last: true,
-    }
+    })
 }

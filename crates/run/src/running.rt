@@ -1,15 +1,20 @@
 // The loop: a piece is read, its lines are answered, what is left of it is kept.
+use crate::Failure;
 use crate::answering::answer_all;
 use crate::reading::arrived;
 use desk::keep;
 use jobs::Job;
+use std::io::{Read, Write};
 use words::{JOBS, OUTPUT, PLACES, RECEIVED, SERIES, STATIONS, Serial};
 
-// Reads event lines to the end of the input and answers them on standard output, from an empty plant, in constant memory. Nothing is read
-// while an answer waits to be written.
-pub fn answer_lines(input: i32) {
-    let mut buf = io::large_buffer();
-    let mut out = io::large_buffer();
+// The bytes that each of the two buffers holds.
+const BUFFER: usize = 65536;
+
+// Reads event lines to the end of the input and answers them to the output, from an empty plant, in constant memory. Nothing is read while
+// an answer waits to be written. A failed read or write ends the run.
+pub fn answer_lines<R: Read, W: Write>(input: &mut R, output: &mut W) -> Result<(), Failure> {
+    let mut buf = [0; BUFFER];
+    let mut out = [0; BUFFER];
     let mut firsts: [Serial; SERIES] = [0; SERIES];
     let mut lasts: [Serial; SERIES] = [0; SERIES];
     let mut kinds: [u32; PLACES] = [0; PLACES];
@@ -38,10 +43,8 @@ pub fn answer_lines(input: i32) {
     let mut slots = made.jobs;
     let mut number = 1;
     let mut held = 0;
-    let mut turns = u64::MAX;
-    while 0 < turns {
-        turns -= 1;
-        let piece = arrived(input, &mut buf, held);
+    for _ in 0..u64::MAX {
+        let piece = arrived(input, &mut buf, held).map_err(Failure::Reading)?;
         let left = answer_all(
             &buf[..piece.end],
             number,
@@ -58,12 +61,15 @@ pub fn answer_lines(input: i32) {
             &mut up,
             &mut row,
             &mut out,
-        );
+            output,
+        )
+        .map_err(Failure::Writing)?;
         number = left.number;
         slots = left.jobs;
         held = keep(&mut buf, left.used, piece.end);
-        if piece.last | !left.written {
+        if piece.last {
             break;
         }
     }
+    Ok(())
 }
