@@ -15,7 +15,7 @@ use Rattle.words.specs.Answers.{code_of, value_of}
 use Rattle.words.specs.Numbers.{out_count}
 use Rattle.digits.specs.declared.Wrote.TheVariants.{To, Full}
 use Rattle.digits.specs.Printing.{decimal, wrote_at, written_at}
-use Rattle.digits.proofs.Laws.{room_found}
+use Rattle.digits.proofs.Laws.{room_none, room_short, room_found}
 use Rattle.digits.proofs.Round.{decimal_long}
 use Rattle.rulebook.specs.declared.Event.{Event}
 use Rattle.rulebook.specs.Events.{numbers, RESTART}
@@ -120,6 +120,20 @@ module _ (number : ℕ) (a : Answer) (row : List ℕ) (many code value most show
 -- what is no longer than the room ends within it
 pub ends_to : (at s long room : ℕ) → s ≡ at + long → long ≤ room → EndsBy (at + room) (To s)
 ends_to at s long room e h next f = let z : next ≡ s = cc in omega arith
+
+-- where nothing was written, there is nothing to end
+ends_full : (end : ℕ) → EndsBy end Full
+ends_full end next e = let z : ◌≡◌ {A = ℕ} 0 1 = cc in omega arith
+
+-- with less room than is asked for, no answer is written
+module _ (out : List ℕ) (at end : ℕ) (text : List ℕ) where
+  pub answer_off : length out < at
+      → (Full ≡ wrote_at answer_room (length out) at text) × ((out ≡ written_at answer_room out at text) × EndsBy end Full)
+  answer_off h = let r = room_none answer_room out at text h in (r.0, (r.1, ends_full end))
+
+  pub answer_shut : at ≤ length out → length out - at < answer_room
+      → (Full ≡ wrote_at answer_room (length out) at text) × ((out ≡ written_at answer_room out at text) × EndsBy end Full)
+  answer_shut h k = let r = room_short answer_room out at text h k in (r.0, (r.1, ends_full end))
 
 -- an event line is at most as long as the room that is asked for it: a kind that there is has two digits, any other no fields
 pub event_long : (e : Event) → e.kind < 2 ^ 32 → Narrow (numbers e) → length (event_text e) ≤ event_room

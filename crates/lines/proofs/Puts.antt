@@ -5,7 +5,7 @@ use mathlib.Core.List.{List, [], ◌∷◌, ◌++◌, append_assoc}
 use native.Mathlib.Omega.{arith}
 use native.Mathlib.Nat.{add-zero, add-suc, suc-add}
 use native.Mathlib.Numerals.{add-one}
-use lib.ListN.{length, get_or, take, drop, set, length-append, length-take, drop_of_length-le}
+use lib.ListN.{length, get_or, take, drop, set, length-append, length-take, length-set, drop_of_length-le}
 use lib.Seq.{sets, length-sets, drop-cons, get_or-take, length-take-le}
 use Rattle.digits.specs.declared.Wrote.{Wrote}
 use Rattle.digits.specs.declared.Wrote.TheVariants.{To, Full}
@@ -31,6 +31,18 @@ module _ (first : List ℕ) (at : ℕ) (text : List ℕ) (w : Wrote) (e : w ≡ 
   -- it is never refused
   pub put_full : w ≡ Full → ⊥
   put_full g = let z : ◌≡◌ {A = ℕ} 0 1 = cc said in omega arith
+
+-- a space and then a number: the position after them, and the bytes
+module _ (first last : List ℕ) (at n : ℕ) where
+  pub space_to : (r : ℕ) → r ≡ at + 1 + length (decimal n) → r ≡ at + (length (decimal n) + 1)
+  space_to r e = omega arith
+
+  pub space_text : last ≡ sets (set first at space) (at + 1) (decimal n) → last ≡ sets first at (space ∷ decimal n)
+  space_text e = e ∙ ap (λ (k : ℕ). sets (set first at space) k (decimal n)) (add-one at)
+
+-- writing changes no length
+pub same_long : (first last : List ℕ) (at p x : ℕ) (text : List ℕ) → last ≡ sets (set first at x) p text → length last ≡ length first
+same_long first last at p x text e = ap length e ∙ length-sets (set first at x) p text ∙ length-set first at x
 
 -- what writing where there is room comes to
 pub ruleset with_room = (put_to, put_text, put_full)
@@ -137,6 +149,10 @@ module _ {first : List ℕ} {at : ℕ} {text : List ℕ} (row out : List ℕ) (m
 
   pub end_text : set out p LF ≡ sets first at text
   end_text = end_left.bytes
+
+  -- no byte more or less
+  pub end_long : (x : ℕ) → length (set out p x) ≡ length first
+  end_long x = length-set out p x ∙ l.long
 
 -- a line by its first number, two more, and the others: there is room for each part in its turn
 module _ (first : List ℕ) (at n a b : ℕ) (ns : List ℕ) (h : at + length (line n (a ∷ b ∷ ns)) ≤ length first) where

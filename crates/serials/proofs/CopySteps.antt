@@ -9,7 +9,7 @@ use mathlib.Core.List.{List}
 use Rattle.words.specs.Numbers.{station_count, series_count, share}
 use Rattle.copies.specs.declared.Kept.{Kept}
 use Rattle.copies.specs.Tables.{Series, series_at, kind, value, rel_kind, rel_value, received, next}
-use Rattle.copies.specs.Steps.{opened, arrived, deleted}
+use Rattle.copies.specs.Steps.{arrived, deleted}
 use Rattle.copies.specs.Facts.{Undelivered}
 use Rattle.copies.proofs.There.{there_same, there_other, there_cases}
 use Rattle.copies.proofs.After.{keeping, with_copy, series_arrived, after_opened, after_sent_off, after_demoted, after_shared, after_dropped, after_promoted, after_arrived, after_deleted}

@@ -1,7 +1,6 @@
 -- The machine's answers to the lists that are tried, by computation.
 -- The definitions of Machines.antt are opened too, so that of a wrong machine it is the answers that differ.
 -- Assumes nothing.
-use Prim.Native.Nat.{ℕ}
 use mathlib.Core.Path.{◌≡◌, refl, sym, ap, ◌∙◌}
 use mathlib.Core.Bool.{Bool, true, false, true≢false}
 use mathlib.Core.List.{List, [], ◌∷◌}
@@ -9,7 +8,6 @@ use lib.Dec.{eqb}
 use borrow.Author.Tests.{eqb-true}
 use Rattle.words.specs.Tests.{◌and◌}
 use Rattle.words.proofs.Laws.{both_true}
-use Rattle.rulebook.specs.declared.Event.{Event}
 use Rattle.rulebook.specs.Edges.{lines_of}
 use Rattle.rulebook.specs.Run.{Machine, from_empty}
 use Rattle.rulebook.proofs.Walked.{effect_walked, same_machine}

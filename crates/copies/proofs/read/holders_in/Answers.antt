@@ -1,8 +1,6 @@
 -- `copies::read::holders_in` meets its contract: the set is the spec's sum so far, and below the next station's bit. Assumes nothing.
-use Prim.Native.Nat.{◌-◌}
 use native.Mathlib.Omega.{arith}
 use mathlib.Core.Path.{refl}
-use Rattle.words.specs.Tests.{non}
 use Rattle.words.proofs.Laws.{sum_none}
 use Rattle.copies.proofs.Reading.{bit_next, bit_small, set_next}
 use Rattle.copies.proofs.read.holders_in.Goals as goal

@@ -1,5 +1,5 @@
 -- `copies::read::holders_in` meets its contract: the set is the spec's sum so far, and below the next station's bit. Assumes nothing.
-use Prim.Native.Nat.{◌*◌, ◌^◌, ◌<◌, ◌≤◌, ◌-◌}
+use Prim.Native.Nat.{◌*◌, ◌^◌, ◌<◌, ◌≤◌}
 use mathlib.Core.Path.{◌≡◌}
 use lib.Dec.{eqb}
 use lib.ListN.{get_or}

@@ -1,5 +1,4 @@
 -- `copies::series::fill_row` meets its contract: the column is the row written so far. Assumes nothing.
-use Prim.Native.Nat.{◌-◌}
 use native.Mathlib.Omega.{arith}
 use borrow.Author.Rules.{rules}
 use Rattle.copies.proofs.Filled.{row_next, row_end}

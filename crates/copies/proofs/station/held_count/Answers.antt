@@ -1,9 +1,7 @@
 -- `copies::station::held_count` meets its contract: the count is the spec's sum so far, and at most one a series. Assumes nothing.
-use Prim.Native.Nat.{◌-◌}
 use native.Mathlib.Omega.{arith}
 use native.Mathlib.Nat.{mul-one}
 use mathlib.Core.Path.{refl, ◌∙◌}
-use Rattle.words.specs.Tests.{non}
 use Rattle.words.proofs.Laws.{sum_none, sum_next}
 use Rattle.copies.proofs.station.held_count.Goals as goal
 

@@ -1,5 +1,5 @@
 -- `copies::station::held_count` meets its contract: the count is the spec's sum so far, and at most one a series. Assumes nothing.
-use Prim.Native.Nat.{◌≤◌, ◌-◌}
+use Prim.Native.Nat.{◌≤◌}
 use mathlib.Core.Path.{◌≡◌}
 use lib.Dec.{eqb}
 use lib.ListN.{get_or}

@@ -1,5 +1,4 @@
 -- `copies::token::other_share` meets its contract: the flag is the spec's walk so far. Assumes nothing.
-use Prim.Native.Nat.{◌-◌}
 use native.Mathlib.Omega.{arith}
 use Rattle.words.specs.Tests.{non, ◌and◌}
 use Rattle.words.proofs.Laws.{some_none, some_next, some_end}

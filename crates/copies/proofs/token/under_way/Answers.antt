@@ -1,5 +1,4 @@
 -- `copies::token::under_way` meets its contract: the flag is the spec's walk so far. Assumes nothing.
-use Prim.Native.Nat.{◌-◌}
 use native.Mathlib.Omega.{arith}
 use Rattle.words.proofs.Laws.{some_none, some_next, some_end}
 use Rattle.copies.proofs.token.under_way.Goals as goal

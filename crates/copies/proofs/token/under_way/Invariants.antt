@@ -1,5 +1,5 @@
 -- `copies::token::under_way` meets its contract: the flag is the spec's walk so far. Assumes nothing.
-use Prim.Native.Nat.{◌≤◌, ◌-◌}
+use Prim.Native.Nat.{◌≤◌}
 use mathlib.Core.Path.{◌≡◌}
 use mathlib.Core.List.{[]}
 use Rattle.words.specs.Numbers.{station_count}

@@ -1,6 +1,5 @@
 -- `at_most` meets its contract: after m turns, what station n has received from the stations below m has been tested.
 -- Assumes nothing.
-use Prim.Native.Nat.{◌-◌}
 use native.Mathlib.Omega.{arith}
 use Rattle.words.proofs.Laws.{all_none, all_next, all_end}
 use Rattle.copies.specs.Whole.{W3_at_most}

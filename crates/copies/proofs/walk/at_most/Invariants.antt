@@ -1,6 +1,6 @@
 -- `at_most` meets its contract: after m turns, what station n has received from the stations below m has been tested.
 -- Assumes nothing.
-use Prim.Native.Nat.{◌≤◌, ◌-◌}
+use Prim.Native.Nat.{◌≤◌}
 use mathlib.Core.Path.{◌≡◌}
 use lib.ListN.{get_or}
 use lib.Dec.{leb}

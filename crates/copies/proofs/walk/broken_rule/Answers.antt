@@ -1,6 +1,5 @@
 -- `broken_rule` meets its contract: a law of proofs/Passing.antt for each turn and each way out.
 -- Assumes nothing.
-use Prim.Native.Nat.{◌-◌}
 use borrow.Author.Rules.{rules}
 use Rattle.copies.proofs.Passing.{start, finish, closed_on, closed_stops, enter, bounds_stop, kept_stops, received_stops, step, leave, tokens_stop}
 use Rattle.copies.specs.Whole.{W3_station, W3_at_most, W3_only}

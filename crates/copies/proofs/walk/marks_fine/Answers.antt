@@ -1,6 +1,5 @@
 -- `marks_fine` meets its contract: after n turns, the marks of the stations below n have been tested.
 -- Assumes nothing.
-use Prim.Native.Nat.{◌-◌}
 use native.Mathlib.Omega.{arith}
 use Rattle.words.proofs.Laws.{all_none, all_next, all_end}
 use Rattle.copies.specs.Whole.{W1_marks}

@@ -1,6 +1,6 @@
 -- `marks_fine` meets its contract: after n turns, the marks of the stations below n have been tested.
 -- Assumes nothing.
-use Prim.Native.Nat.{◌≤◌, ◌-◌}
+use Prim.Native.Nat.{◌≤◌}
 use mathlib.Core.Path.{◌≡◌}
 use lib.ListN.{get_or}
 use lib.Dec.{leb}

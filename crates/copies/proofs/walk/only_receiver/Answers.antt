@@ -1,6 +1,5 @@
 -- `only_receiver` meets its contract: after m turns, the stations below m have been tested.
 -- Assumes nothing.
-use Prim.Native.Nat.{◌-◌}
 use native.Mathlib.Omega.{arith}
 use Rattle.words.proofs.Laws.{all_none, all_next, all_end}
 use Rattle.words.specs.Tests.{◌⇒◌}

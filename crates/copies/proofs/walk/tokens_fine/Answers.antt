@@ -1,9 +1,7 @@
 -- `tokens_fine` meets its contract: after n turns, the tokens of the stations below n are counted, at most two a station.
 -- Assumes nothing.
-use Prim.Native.Nat.{◌-◌}
 use native.Mathlib.Omega.{arith}
 use Rattle.copies.proofs.Tokens.{tally_none, tally_next}
-use Rattle.copies.specs.Tally.{tally}
 use Rattle.copies.proofs.walk.tokens_fine.Goals as goal
 
 pub loop-n-init : goal.loop-n-init

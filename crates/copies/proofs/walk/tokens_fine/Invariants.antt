@@ -1,6 +1,6 @@
 -- `tokens_fine` meets its contract: after n turns, the tokens of the stations below n are counted, at most two a station.
 -- Assumes nothing.
-use Prim.Native.Nat.{◌≤◌, ◌-◌, ◌*◌}
+use Prim.Native.Nat.{◌≤◌, ◌*◌}
 use mathlib.Core.Path.{◌≡◌}
 use mathlib.Core.List.{[]}
 use Rattle.words.specs.Numbers.{station_count}

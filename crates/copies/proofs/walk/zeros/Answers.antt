@@ -1,6 +1,5 @@
 -- `zeros` meets its contract: after i turns, the first i entries have been tested.
 -- Assumes nothing.
-use Prim.Native.Nat.{◌-◌}
 use native.Mathlib.Omega.{arith}
 use Rattle.words.proofs.Laws.{all_none, all_next, all_end}
 use Rattle.copies.proofs.walk.zeros.Goals as goal

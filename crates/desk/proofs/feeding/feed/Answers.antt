@@ -1,5 +1,4 @@
 -- `feed` meets its contract: what was done and what is still to be done give together what the whole call gives. Assumes nothing.
-use Prim.Native.Nat.{◌-◌}
 use mathlib.Core.Path.{sym, ◌∙◌}
 use native.Mathlib.Omega.{arith}
 use Rattle.desk.proofs.Walks.{whole_found}

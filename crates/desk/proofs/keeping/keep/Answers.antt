@@ -1,8 +1,8 @@
 -- `keep` meets its contract: the bytes that are left to move are never overwritten before they are moved. Assumes nothing.
-use Prim.Native.Nat.{◌-◌, ◌<◌}
+use Prim.Native.Nat.{◌<◌}
 use native.Mathlib.Omega.{arith}
-use lib.ListN.{length, length-set}
-use Rattle.desk.specs.Calls.{kept_bytes, kept}
+use lib.ListN.{length}
+use Rattle.desk.specs.Calls.{kept_bytes}
 use Rattle.desk.proofs.Kept.{kept_turn, kept_rest, kept_more, kept_done}
 use Rattle.desk.proofs.keeping.keep.Goals as goal
 

@@ -1,10 +1,9 @@
 -- `count_accepted` meets its contract: at every turn the total is what it was at first. Assumes nothing.
-use Prim.Native.Nat.{◌-◌}
 use mathlib.Core.Path.{refl, sym, ◌∙◌}
 use native.Mathlib.Omega.{arith}
 use borrow.Author.Tests.{ne_eqb}
 use Rattle.events.proofs.Ways.{step_stored}
-use Rattle.gauge.proofs.Totals.{total, total_first, total_next, total_last}
+use Rattle.gauge.proofs.Totals.{total_first, total_next, total_last}
 use Rattle.gauge.proofs.counting.count_accepted.Goals as goal
 
 pub loop-i-init : goal.loop-i-init

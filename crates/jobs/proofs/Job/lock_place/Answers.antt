@@ -1,5 +1,4 @@
 -- `jobs::Job::lock_place` meets its contract: no place before i locks the series. Assumes nothing.
-use Prim.Native.Nat.{◌-◌}
 use native.Mathlib.Omega.{arith}
 use mathlib.Core.Path.{refl}
 use Rattle.words.specs.Tests.{some_below}

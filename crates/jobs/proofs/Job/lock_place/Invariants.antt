@@ -1,5 +1,5 @@
 -- `jobs::Job::lock_place` meets its contract: no place before i locks the series. Assumes nothing.
-use Prim.Native.Nat.{◌≤◌, ◌-◌}
+use Prim.Native.Nat.{◌≤◌}
 use mathlib.Core.Path.{◌≡◌}
 use mathlib.Core.Bool.{false}
 use Rattle.words.specs.Numbers.{lock_count}

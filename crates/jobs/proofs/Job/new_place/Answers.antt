@@ -1,5 +1,4 @@
 -- `jobs::Job::new_place` meets its contract: every place before i is used. Assumes nothing.
-use Prim.Native.Nat.{◌-◌}
 use native.Mathlib.Omega.{arith}
 use mathlib.Core.Path.{refl}
 use Rattle.words.specs.Tests.{some_below}

@@ -1,5 +1,5 @@
 -- `jobs::Job::new_place` meets its contract: every place before i is used. Assumes nothing.
-use Prim.Native.Nat.{◌≤◌, ◌-◌}
+use Prim.Native.Nat.{◌≤◌}
 use mathlib.Core.Path.{◌≡◌}
 use mathlib.Core.Bool.{false}
 use Rattle.words.specs.Numbers.{lock_count}

@@ -1,5 +1,4 @@
 -- `fits` meets its contract: after i turns, the first i places have been tested. Assumes nothing.
-use Prim.Native.Nat.{◌-◌}
 use native.Mathlib.Omega.{arith}
 use Rattle.words.proofs.Laws.{all_none, all_next, all_end}
 use Rattle.jobs.specs.Draws.{fits}

@@ -1,10 +1,8 @@
 -- `store_all` meets its contract: after i turns, the first i places have been stored. Assumes nothing.
-use Prim.Native.Nat.{◌-◌}
 use native.Mathlib.Omega.{arith}
 use mathlib.Core.Path.{refl}
 use mathlib.Core.List.{[]}
 use borrow.Author.Rules.{rules}
-use Rattle.jobs.specs.Store.{store}
 use Rattle.jobs.proofs.Stored.{one_count, store_none, store_next}
 use Rattle.jobs.proofs.committing.store_all.Goals as goal
 

@@ -1,7 +1,6 @@
 -- `jobs::slots::close_station` meets its contract: each turn closes and counts its slot as the definitions do. Assumes nothing.
 use mathlib.Core.Bool.{not}
 use mathlib.Core.Path.{ap}
-use Prim.Native.Nat.{◌-◌}
 use native.Mathlib.Omega.{arith}
 use mathlib.Core.Path.{refl}
 use Rattle.words.proofs.Laws.{sum_none}

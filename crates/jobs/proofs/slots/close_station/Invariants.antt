@@ -1,5 +1,5 @@
 -- `jobs::slots::close_station` meets its contract: each turn closes and counts its slot as the definitions do. Assumes nothing.
-use Prim.Native.Nat.{◌≤◌, ◌-◌}
+use Prim.Native.Nat.{◌≤◌}
 use mathlib.Core.Path.{◌≡◌}
 use Rattle.words.specs.Numbers.{job_count}
 use Rattle.words.specs.Tests.{sum_below, one_if}

@@ -1,7 +1,5 @@
 -- `jobs::slots::is_free` meets its contract: each turn joins the test of its slot. Assumes nothing.
-use Prim.Native.Nat.{◌-◌}
 use native.Mathlib.Omega.{arith}
-use Rattle.words.specs.Tests.{non}
 use Rattle.words.proofs.Laws.{all_none, all_next, all_end, flags}
 use Rattle.jobs.specs.Slots.{free}
 use Rattle.jobs.proofs.slots.is_free.Goals as goal

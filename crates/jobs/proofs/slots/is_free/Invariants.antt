@@ -1,5 +1,5 @@
 -- `jobs::slots::is_free` meets its contract: each turn joins the test of its slot. Assumes nothing.
-use Prim.Native.Nat.{◌≤◌, ◌-◌}
+use Prim.Native.Nat.{◌≤◌}
 use mathlib.Core.Path.{◌≡◌}
 use Rattle.words.specs.Numbers.{job_count}
 use Rattle.words.specs.Tests.{non, all_below}

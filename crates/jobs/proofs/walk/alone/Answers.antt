@@ -1,7 +1,5 @@
 -- `alone` meets its contract: after k turns, the slots below k have been tested. Assumes nothing.
-use Prim.Native.Nat.{◌-◌}
 use native.Mathlib.Omega.{arith}
-use Rattle.words.specs.Tests.{non}
 use Rattle.words.proofs.Laws.{all_none, all_next, all_end, flags}
 use Rattle.jobs.specs.Whole.{W4_alone}
 use Rattle.jobs.proofs.walk.alone.Goals as goal

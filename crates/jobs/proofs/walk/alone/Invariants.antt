@@ -1,5 +1,5 @@
 -- `alone` meets its contract: after k turns, the slots below k have been tested. Assumes nothing.
-use Prim.Native.Nat.{◌≤◌, ◌-◌}
+use Prim.Native.Nat.{◌≤◌}
 use mathlib.Core.Path.{◌≡◌}
 use lib.Dec.{eqb}
 use Rattle.words.specs.Numbers.{job_count}

@@ -1,9 +1,8 @@
 -- `broken_rule` meets its contract: after j turns, the slots below j are known to break no rule. Assumes nothing.
-use Prim.Native.Nat.{◌-◌}
 use native.Mathlib.Omega.{arith}
 use mathlib.Core.Path.{refl, sym}
 use Rattle.words.proofs.Laws.{first_none, first_next, first_stop, first_end}
-use Rattle.jobs.specs.FirstBroken.{broken_job, first_broken_job}
+use Rattle.jobs.specs.FirstBroken.{first_broken_job}
 use Rattle.jobs.proofs.Ways.{slot_unused}
 use Rattle.jobs.proofs.walk.broken_rule.Goals as goal
 

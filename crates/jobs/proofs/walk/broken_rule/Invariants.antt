@@ -1,5 +1,5 @@
 -- `broken_rule` meets its contract: after j turns, the slots below j are known to break no rule. Assumes nothing.
-use Prim.Native.Nat.{ℕ, ◌≤◌, ◌-◌}
+use Prim.Native.Nat.{ℕ, ◌≤◌}
 use mathlib.Core.Path.{◌≡◌}
 use mathlib.Core.List.{List}
 use Rattle.words.specs.Numbers.{job_count}

@@ -1,7 +1,5 @@
 -- `differs` meets its contract: after k turns, the lock places below k have been tested. Assumes nothing.
-use Prim.Native.Nat.{◌-◌}
 use native.Mathlib.Omega.{arith}
-use Rattle.words.specs.Tests.{non}
 use Rattle.words.proofs.Laws.{all_none, all_next, all_end, flags}
 use Rattle.jobs.specs.Whole.{W4_differs}
 use Rattle.jobs.proofs.walk.differs.Goals as goal

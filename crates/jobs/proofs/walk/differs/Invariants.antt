@@ -1,5 +1,5 @@
 -- `differs` meets its contract: after k turns, the lock places below k have been tested. Assumes nothing.
-use Prim.Native.Nat.{◌≤◌, ◌-◌}
+use Prim.Native.Nat.{◌≤◌}
 use mathlib.Core.Path.{◌≡◌}
 use Rattle.words.specs.Tests.{non, all_below}
 use Rattle.jobs.specs.Job.{lock_at, locks_here}

@@ -1,7 +1,5 @@
 -- `has_no_lock` meets its contract: after i turns, the lock places below i have been tested. Assumes nothing.
-use Prim.Native.Nat.{◌-◌}
 use native.Mathlib.Omega.{arith}
-use Rattle.words.specs.Tests.{non}
 use Rattle.words.proofs.Laws.{all_none, all_next, all_end, flags}
 use Rattle.jobs.proofs.walk.has_no_lock.Goals as goal
 

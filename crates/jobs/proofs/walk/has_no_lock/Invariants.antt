@@ -1,5 +1,5 @@
 -- `has_no_lock` meets its contract: after i turns, the lock places below i have been tested. Assumes nothing.
-use Prim.Native.Nat.{◌≤◌, ◌-◌}
+use Prim.Native.Nat.{◌≤◌}
 use mathlib.Core.Path.{◌≡◌}
 use Rattle.words.specs.Numbers.{lock_count}
 use Rattle.words.specs.Tests.{non, all_below}

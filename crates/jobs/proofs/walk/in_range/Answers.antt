@@ -1,5 +1,4 @@
 -- `in_range` meets its contract: after i turns, the lock places below i have been tested. Assumes nothing.
-use Prim.Native.Nat.{◌-◌}
 use native.Mathlib.Omega.{arith}
 use Rattle.words.proofs.Laws.{all_none, all_next, all_end, flags}
 use Rattle.jobs.specs.Whole.{W1_job}

@@ -1,9 +1,8 @@
 -- `locks_fine` meets its contract: after i turns, the lock places below i have been tested. Assumes nothing.
-use Prim.Native.Nat.{◌-◌}
 use native.Mathlib.Omega.{arith}
 use mathlib.Core.Path.{refl}
 use Rattle.words.proofs.Laws.{all_none, all_next, all_end}
-use Rattle.jobs.specs.Whole.{W4_lock, W4_locks}
+use Rattle.jobs.specs.Whole.{W4_locks}
 use Rattle.jobs.proofs.walk.locks_fine.Goals as goal
 
 pub loop-i-init : goal.loop-i-init

@@ -1,5 +1,5 @@
 -- `locks_fine` meets its contract: after i turns, the lock places below i have been tested. Assumes nothing.
-use Prim.Native.Nat.{ℕ, ◌≤◌, ◌-◌}
+use Prim.Native.Nat.{ℕ, ◌≤◌}
 use mathlib.Core.Path.{◌≡◌}
 use mathlib.Core.List.{List}
 use Rattle.words.specs.Numbers.{lock_count}

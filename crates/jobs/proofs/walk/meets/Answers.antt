@@ -1,5 +1,4 @@
 -- `meets` meets its contract: after i turns, the job's lock places below i have been tested. Assumes nothing.
-use Prim.Native.Nat.{◌-◌}
 use native.Mathlib.Omega.{arith}
 use Rattle.words.proofs.Laws.{some_none, some_next, some_end, flags}
 use Rattle.jobs.proofs.Ways.{apart, together}

@@ -1,5 +1,5 @@
 -- `meets` meets its contract: after i turns, the job's lock places below i have been tested. Assumes nothing.
-use Prim.Native.Nat.{◌≤◌, ◌-◌}
+use Prim.Native.Nat.{◌≤◌}
 use mathlib.Core.Path.{◌≡◌}
 use lib.Dec.{eqb}
 use Rattle.words.specs.Numbers.{lock_count, exclusive}

@@ -1,6 +1,5 @@
 -- `places_fine` meets its contract: after i turns, the lock places below i have been tested, and it is known whether all are used.
 -- Assumes nothing.
-use Prim.Native.Nat.{◌-◌}
 use native.Mathlib.Omega.{arith}
 use Rattle.words.proofs.Laws.{all_none, all_next, all_end, flags}
 use Rattle.jobs.proofs.Ways.{place_next}

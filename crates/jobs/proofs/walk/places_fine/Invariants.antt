@@ -1,6 +1,6 @@
 -- `places_fine` meets its contract: after i turns, the lock places below i have been tested, and it is known whether all are used.
 -- Assumes nothing.
-use Prim.Native.Nat.{◌≤◌, ◌-◌}
+use Prim.Native.Nat.{◌≤◌}
 use mathlib.Core.Path.{◌≡◌}
 use Rattle.words.specs.Numbers.{lock_count}
 use Rattle.words.specs.Tests.{all_below}

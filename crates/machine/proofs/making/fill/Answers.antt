@@ -1,5 +1,4 @@
 -- `machine::making::fill` meets its contract: the column is what was written so far. Assumes nothing.
-use Prim.Native.Nat.{◌-◌}
 use native.Mathlib.Omega.{arith}
 use borrow.Author.Rules.{rules}
 use Rattle.copies.proofs.Filled.{row_end}

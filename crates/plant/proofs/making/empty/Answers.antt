@@ -1,5 +1,4 @@
 -- `plant::making::empty` meets its contract: a law for each way out. Assumes nothing.
-use mathlib.Core.Path.{sym, ap, ◌∙◌}
 use Rattle.plant.proofs.Lent.{empty_few, empty_unclear, empty_clear}
 use Rattle.plant.proofs.making.empty.Goals as goal
 

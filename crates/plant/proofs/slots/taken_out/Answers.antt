@@ -1,13 +1,10 @@
 -- `plant::slots::taken_out` meets its contract: a turn takes one slot out more, and after sixteen they are all there. Assumes nothing.
-use borrow.Author.Rules.{rules}
 use native.Mathlib.Omega.{arith}
 use native.Mathlib.Numerals.{add-one}
 use mathlib.Core.Path.{◌≡◌, refl, ap, ◌∙◌}
-use mathlib.Core.List.{List, ◌++◌}
-use lib.ListN.{length, take, drop}
+use lib.ListN.{length, take}
 use mathlib.Core.List.{append-nil}
 use Rattle.words.specs.Numbers.{job_count}
-use Rattle.jobs.specs.declared.Job.{Job}
 use Rattle.jobs.specs.Slots.{no_slot}
 use Rattle.plant.proofs.Moved.{moved, moved_next, moved_all}
 use Rattle.plant.proofs.slots.taken_out.Goals as goal
