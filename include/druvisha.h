@@ -4,9 +4,9 @@
  * call takes any tables and any event, and gives an answer: whoever calls need not check anything first. Every refusal has value 0 and leaves the
  * tables and the output as they stood. That each call does exactly this is proved (README.md, "What is proved"; crates/abi/).
  *
- * `rt staticlib abi` makes the archive, target/staticlib/libabi.a (x86-64 Linux). It needs no other library:
+ * `rt lib` in crates/abi makes the archive, crates/abi/out/libabi.a (x86-64 Linux). It needs no other library:
  *
- *     cc -I include main.c target/staticlib/libabi.a
+ *     cc -I include main.c crates/abi/out/libabi.a
  *
  * What a caller answers for: each pointer leads to as many entries as the count behind it says, is aligned and isn't null; no two tables overlap;
  * and nothing else reads or writes them before the call returns. There is nothing to initialize and nothing to free. Calls on different tables may
