@@ -1,4 +1,4 @@
-// The line reader: thin functions over a text and a place in it, above the covered readers of lines and numbers.
+// The line reader: thin functions over a text and a place in it, above the readers of lines and numbers.
 ghost use Rattle.std.specs.Prelude.{◌≡◌};
 ghost use Rattle.lines.specs.Texts.{line_at};
 ghost use Rattle.lines.specs.Reader.{reader_at, number_at, number_read};

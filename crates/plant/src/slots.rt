@@ -1,4 +1,4 @@
-// The table of job slots, lent as a slice: thin functions take one slot out, call its methods and put it back. Their proofs are walks by hand.
+// The table of job slots, lent as a slice: thin functions take one slot out, call its methods and put it back.
 ghost use Rattle.std.specs.Prelude.{◌≡◌, ◌++◌, ◌<◌, ◌≤◌, length, set, take, drop, replicate};
 ghost use Rattle.std.proofs.lemmas.List.Edits.{sets};
 ghost use Rattle.words.specs.Numbers.{job_count};
