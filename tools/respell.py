@@ -1,10 +1,11 @@
 #!/usr/bin/env python3
 """Spells the repository's own definitions and lemmas in snake case: fooBar and foo-bar become foo_bar.
 
-usage: tools/respell.py FOLDER
+usage: tools/respell.py FOLDER [--list] [--write]
 
-Run once, at the top of the repository, right after port.py. It goes over specs/, proofs/, src/, must-fail/, README.md and docs/. Names of functions of src/, types,
-exported C names, strings, inputs and outputs stay. It prints each name that would fall together with another, and then changes nothing.
+Run once with --write, at the top of the repository, right after port.py. It goes over specs/, proofs/, src/, must-fail/, README.md and docs/. Names of
+functions of src/, types, exported C names, strings, inputs and outputs stay. It prints where two names of a file would come to one: look at each of these
+before --write, which writes all the same. --list prints each name and the new one.
 """
 import os
 import re
@@ -48,7 +49,7 @@ def standing_names(texts):
     return found
 
 
-# Lemmas that port.py respelled already, each with the crate where its new name is also a definition's.
+# Lemmas that port.py respelled already, each with the file where its new name is also a definition's.
 LEMMAS = {"goes_on": "goes_on_lem", "is_open": "is_open_lem", "share_back": "share_back_lem"}
 OF = {"goes_on": "desk/proofs/Walks.antt", "is_open": "events/proofs/JobEvents.antt", "share_back": "wrong/proofs/Tried.antt"}
 
@@ -105,9 +106,9 @@ def main():
                 return old
             if before.endswith("tie.Need-"):
                 return old
-            # In prose a dash may be a plain one: there only what stands in backquotes is a name.
             if old in PORTED and not path.endswith((".md", ".edit")):
                 return old
+            # In prose a dash may be a plain one: there only what stands in backquotes is a name.
             prose = path.endswith(".md") or (path.endswith(".antt") and "--" in line)
             if path.endswith(".rt") and line.startswith("ghost use ") and old.isupper():
                 return mapping[old]
@@ -117,7 +118,6 @@ def main():
 
         return token.sub(one, text)
 
-    bad = 0
     for path, text in texts.items():
         if path.endswith(".antt"):
             code = re.sub(r"--.*", "", text)
@@ -128,7 +128,6 @@ def main():
                 by.setdefault(new, set()).add(word)
             for new, olds in sorted(by.items()):
                 if len(olds) > 1:
-                    bad += 1
                     print("together:", path, new, sorted(olds))
     mapping.update({it: snake(it) for it in PORTED if it not in mapping})
     token = re.compile(rf"(?<![\w\-'])(?:{'|'.join(sorted(map(re.escape, mapping), key=len, reverse=True))})(?![\w\-'])")

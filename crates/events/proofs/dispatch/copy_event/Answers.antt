@@ -1,5 +1,5 @@
 -- `copy_event` meets its contract: at each kind the call's own promise. Assumes nothing.
-use borrow.Author.Tests.{ne_eqb}
+use Rattle.std.proofs.Common.{rules, tests}
 use Rattle.events.specs.Unchecked.{copy_event}
 use Rattle.events.proofs.dispatch.copy_event.Goals as goal
 
@@ -41,5 +41,4 @@ returns-in-17 c = rw c.in-17.is (c.restart.ensures _ _ _ _ _ _ _ _)
 
 pub returns-in_default : goal.returns-in_default
 unfolding copy_event
-returns-in_default c =
-    let r = c.in_default.in_default-own.rest in simp (ne_eqb _ _ r.0.0.0.0.0.0.0.0.1, ne_eqb _ _ r.0.0.0.0.0.0.0.1, ne_eqb _ _ r.0.0.0.0.0.0.1, ne_eqb _ _ r.0.0.0.0.0.1, ne_eqb _ _ r.0.0.0.0.1, ne_eqb _ _ r.0.0.0.1, ne_eqb _ _ r.0.0.1, ne_eqb _ _ r.0.1, ne_eqb _ _ r.1)
+returns-in_default c = search (tests, rules)

@@ -1,5 +1,5 @@
 -- `job_event` meets its contract: at each kind the call's own promise. Assumes nothing.
-use borrow.Author.Tests.{ne_eqb}
+use Rattle.std.proofs.Common.{rules, tests}
 use Rattle.jobs.proofs.OneSlot.{kept_slot}
 use Rattle.events.specs.Unchecked.{job_turn}
 use Rattle.events.proofs.Slots.{slots_only_lem, answer_only}
@@ -35,6 +35,4 @@ returns-in-8 c ns rt rk rv gs bs same = rw c.in-8.is (slots_only_lem _ _ _ _ (c.
 
 pub returns-in_default : goal.returns-in_default
 unfolding job_turn
-returns-in_default c ns rt rk rv gs bs same =
-    let r = c.in_default.in_default-own.rest in
-    rw (kept_slot bs _ _ same) (simp (ne_eqb _ _ r.0.0.0.0.0.0.1, ne_eqb _ _ r.0.0.0.0.0.1, ne_eqb _ _ r.0.0.0.0.1, ne_eqb _ _ r.0.0.0.1, ne_eqb _ _ r.0.0.1, ne_eqb _ _ r.0.1, ne_eqb _ _ r.1))
+returns-in_default c ns rt rk rv gs bs same = rw (kept_slot bs _ _ same) (search (tests, rules))

@@ -57,4 +57,4 @@ pub returns-in-0 : goal.returns-in-0
 returns-in-0 c p = search bad_none
 
 pub returns-in-0-2 : goal.returns-in-0-2
-returns-in-0-2 c p = bad_rest p _ c.in-0.in-0-own.rest.0 c.in-0.in-0-own.rest.1
+returns-in-0-2 c p = search bad_rest
