@@ -13,7 +13,7 @@ use Rattle.copies.specs.Tables.{Copies, Series, series_at, kept_at, place, is_up
 use Rattle.copies.specs.Steps.{put_kind, opened, raised, released, sent_off, demoted, shared, dropped, promoted, arrived, deleted, marked}
 use Rattle.copies.proofs.There.{there, there_cases}
 use Rattle.copies.proofs.Long.{Long}
-use Rattle.copies.proofs.Columns.{with_row, row_station, row_series, row_but_same, row_but_station, row_but_series, only_none, only_set, only_row, only_then}
+use Rattle.copies.proofs.Stores.{with_row, row_station, row_series, row_but_same, row_but_station, row_but_series, only_none, only_set, only_row, only_then}
 use Rattle.copies.proofs.Received.{receives_none, receives_one}
 use Rattle.copies.proofs.Leaves.{OnlyStated, Leaves, put, put_leaves}
 

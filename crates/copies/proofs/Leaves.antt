@@ -15,7 +15,7 @@ use Rattle.copies.proofs.There.{there, there_cases}
 use Rattle.copies.proofs.Same.{Same}
 use Rattle.copies.proofs.Long.{Long, long, long_short}
 use Rattle.copies.proofs.Received.{Receives}
-use Rattle.copies.proofs.Columns.{place_same, OnlyBelow, only_none, only_set}
+use Rattle.copies.proofs.Stores.{place_same, OnlyBelow, only_none, only_set}
 
 -- From t to t': columns as long as before, and changed at most within their stated sizes.
 pub record OnlyStated (t t' : Copies) : Type 0 where

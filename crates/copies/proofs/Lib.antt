@@ -18,7 +18,7 @@ pub mod Walked
 -- the layer's promise: what an operation leaves
 pub mod Long
 pub mod There
-pub mod Columns
+pub mod Stores
 pub mod Received
 pub mod Leaves
 pub mod After

@@ -7,6 +7,7 @@ ghost use Rattle.copies.specs.Tables.{place, received_place, series_in};
 ghost use Rattle.copies.specs.Steps.{holder_set};
 ghost use Rattle.copies.specs.Calls.{read, bad_copy, beyond, holders};
 
+use crate::Seen;
 use crate::checks::bad_copy;
 use crate::series::is_beyond;
 use words::{PLACES, SERIES, STATIONS, Serial, VOID};
@@ -25,61 +26,61 @@ fn entry(column: &[u32], series: u32, station: u32) -> u32
 }
 
 // The kind of a station's copy.
-pub fn kind(kinds: &[u32], series: u32, station: u32) -> u32
-    ensures { result ≡ read place_count kinds.now (bad_copy series station) (place series station) }
+pub fn kind(columns: &Seen<'_>, series: u32, station: u32) -> u32
+    ensures { result ≡ read place_count columns.now.kinds.now (bad_copy series station) (place series station) }
 {
-    entry(kinds, series, station)
+    entry(columns.kinds, series, station)
 }
 
 // The value of a station's copy.
-pub fn value(values: &[Serial], series: u32, station: u32) -> Serial
-    ensures { result ≡ read place_count values.now (bad_copy series station) (place series station) }
+pub fn value(columns: &Seen<'_>, series: u32, station: u32) -> Serial
+    ensures { result ≡ read place_count columns.now.values.now (bad_copy series station) (place series station) }
 {
-    entry(values, series, station)
+    entry(columns.values, series, station)
 }
 
 // Whether a series is open.
-pub fn is_open(firsts: &[Serial], series: u32) -> bool
-    ensures { result ≡ non (eqb (read series_count firsts.now (leb series_count series) series) 0) }
+pub fn is_open(columns: &Seen<'_>, series: u32) -> bool
+    ensures { result ≡ non (eqb (read series_count columns.now.firsts.now (leb series_count series) series) 0) }
 {
-    if firsts.len() < SERIES {
+    if columns.firsts.len() < SERIES {
         return false;
     }
     if SERIES <= series as usize {
         return false;
     }
-    firsts[series as usize] != 0
+    columns.firsts[series as usize] != 0
 }
 
 // Whether a station is up.
-pub fn is_up(up: &[u32], station: u32) -> bool
-    ensures { result ≡ eqb (read station_count up.now (leb station_count station) station) 1 }
+pub fn is_up(columns: &Seen<'_>, station: u32) -> bool
+    ensures { result ≡ eqb (read station_count columns.now.up.now (leb station_count station) station) 1 }
 {
-    if up.len() < STATIONS {
+    if columns.up.len() < STATIONS {
         return false;
     }
     if STATIONS <= station as usize {
         return false;
     }
-    up[station as usize] == 1
+    columns.up[station as usize] == 1
 }
 
 // Whether a count goes beyond what is left of a series at a station (refusal 14).
-pub fn beyond(lasts: &[Serial], values: &[Serial], series: u32, station: u32, count: Serial) -> bool
-    ensures { result ≡ beyond lasts.now values.now series station count }
+pub fn beyond(columns: &Seen<'_>, series: u32, station: u32, count: Serial) -> bool
+    ensures { result ≡ beyond columns.now.lasts.now columns.now.values.now series station count }
 {
-    if lasts.len() < SERIES {
+    if columns.lasts.len() < SERIES {
         return true;
     }
-    if values.len() < PLACES {
+    if columns.values.len() < PLACES {
         return true;
     }
     if bad_copy(series, station) {
         return true;
     }
     is_beyond(
-        lasts[series as usize],
-        values[series as usize * STATIONS + station as usize],
+        columns.lasts[series as usize],
+        columns.values[series as usize * STATIONS + station as usize],
         count,
     )
 }
@@ -128,14 +129,14 @@ fn holders_in(kinds: &[u32], series: u32) -> u8
 }
 
 // The stations that hold a series, bit i for station i.
-pub fn holders(kinds: &[u32], series: u32) -> u8
-    ensures { result ≡ holders kinds.now series }
+pub fn holders(columns: &Seen<'_>, series: u32) -> u8
+    ensures { result ≡ holders columns.now.kinds.now series }
 {
-    if kinds.len() < PLACES {
+    if columns.kinds.len() < PLACES {
         return 0;
     }
     if SERIES <= series as usize {
         return 0;
     }
-    holders_in(kinds, series)
+    holders_in(columns.kinds, series)
 }

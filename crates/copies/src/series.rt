@@ -1,10 +1,11 @@
 // OPEN, and what COMMIT adds to a copy's value.
-ghost use Rattle.std.specs.Prelude.{◌≡◌, List, ℕ, ◌-◌, ◌+◌, ◌<◌, ◌≤◌, ltb, length, replicate};
+ghost use Rattle.std.specs.Prelude.{◌≡◌, ◌-◌, ◌+◌, ◌<◌, ◌≤◌, ltb, length, replicate};
 ghost use Rattle.std.proofs.lemmas.List.Edits.{sets};
 ghost use Rattle.words.specs.Numbers.{station_count, series_count, place_count};
-ghost use Rattle.copies.specs.Tables.{tables};
+ghost use Rattle.copies.specs.Columns.{lent, SameColumns};
 ghost use Rattle.copies.specs.Calls.{outcome, open_series, open_in, raise, raise_in};
 
+use crate::Lent;
 use crate::checks::{bad_copy, bad_opening};
 use words::{Answer, EXCLUSIVE, GREATEST_SERIAL, PLACES, SERIES, STATIONS, Serial, VOID};
 
@@ -19,64 +20,50 @@ fn fill_row(column: &mut [u32], row: usize, number: u32)
 }
 
 // OPEN where refusals 1 and 3 are not given.
-fn open_in(
-    firsts: &mut [Serial],
-    lasts: &mut [Serial],
-    kinds: &mut [u32],
-    values: &mut [Serial],
-    up: &[u32],
-    series: u32,
-    first: Serial,
-    last: Serial,
-    station: u32,
-) -> Answer
-    requires { (series_count ≤ length firsts.old) × (series_count ≤ length lasts.old) × (place_count ≤ length kinds.old) × (place_count ≤ length values.old) × (station_count ≤ length up.now) × (series < series_count) × (station < station_count) }
-    ensures { (ns rt rk rv gs : List ℕ) → outcome result (tables firsts.new lasts.new kinds.new values.new ns rt rk rv gs up.now)
-        ≡ open_in (tables firsts.old lasts.old kinds.old values.old ns rt rk rv gs up.now) series first last station }
+fn open_in(columns: &mut Lent<'_>, series: u32, first: Serial, last: Serial, station: u32) -> Answer
+    requires { (series_count ≤ length columns.old.firsts.now) × (series_count ≤ length columns.old.lasts.now) × (place_count ≤ length columns.old.kinds.now) × (place_count ≤ length columns.old.values.now) × (station_count ≤ length columns.old.up.now) × (series < series_count) × (station < station_count) }
+    ensures same { SameColumns columns.old columns.new }
+    ensures leaves { outcome result (lent columns.new)
+        ≡ open_in (lent columns.old) series first last station }
 {
-    if firsts[series as usize] != 0 {
+    if columns.firsts[series as usize] != 0 {
         return Answer::Taken;
     }
-    if up[station as usize] != 1 {
+    if columns.up[station as usize] != 1 {
         return Answer::Down;
     }
-    firsts[series as usize] = first;
-    lasts[series as usize] = last;
-    fill_row(kinds, series as usize * STATIONS, VOID);
-    kinds[series as usize * STATIONS + station as usize] = EXCLUSIVE;
-    fill_row(values, series as usize * STATIONS, first);
+    columns.firsts[series as usize] = first;
+    columns.lasts[series as usize] = last;
+    fill_row(columns.kinds, series as usize * STATIONS, VOID);
+    columns.kinds[series as usize * STATIONS + station as usize] = EXCLUSIVE;
+    fill_row(columns.values, series as usize * STATIONS, first);
     Answer::Done(0)
 }
 
 // 1 OPEN: exclusive at the station, void elsewhere, all values the first number.
 pub fn open_series(
-    firsts: &mut [Serial],
-    lasts: &mut [Serial],
-    kinds: &mut [u32],
-    values: &mut [Serial],
-    up: &[u32],
+    columns: &mut Lent<'_>,
     series: u32,
     first: Serial,
     last: Serial,
     station: u32,
 ) -> Answer
-    ensures { (ns rt rk rv gs : List ℕ) → outcome result (tables firsts.new lasts.new kinds.new values.new ns rt rk rv gs up.now)
-        ≡ open_series (tables firsts.old lasts.old kinds.old values.old ns rt rk rv gs up.now) series first last station }
+    ensures same { SameColumns columns.old columns.new }
+    ensures leaves { outcome result (lent columns.new)
+        ≡ open_series (lent columns.old) series first last station }
 {
-    if (firsts.len() < SERIES)
-        | (lasts.len() < SERIES)
-        | (kinds.len() < PLACES)
-        | (values.len() < PLACES)
-        | (up.len() < STATIONS)
+    if (columns.firsts.len() < SERIES)
+        | (columns.lasts.len() < SERIES)
+        | (columns.kinds.len() < PLACES)
+        | (columns.values.len() < PLACES)
+        | (columns.up.len() < STATIONS)
     {
         return Answer::Short;
     }
     if bad_opening(series, first, last, station) {
         return Answer::BadEvent;
     }
-    open_in(
-        firsts, lasts, kinds, values, up, series, first, last, station,
-    )
+    open_in(columns, series, first, last, station)
 }
 
 // Whether a count is above last + 1 - value, which is 0 where the value is above last + 1.
@@ -91,45 +78,35 @@ pub fn is_beyond(last: Serial, value: Serial, count: Serial) -> bool
 }
 
 // A committed count where refusals 1 and 3 are not given.
-fn raise_in(
-    lasts: &[Serial],
-    values: &mut [Serial],
-    series: u32,
-    station: u32,
-    count: Serial,
-) -> Answer
-    requires { (series_count ≤ length lasts.now) × (place_count ≤ length values.old) × (series < series_count) × (station < station_count) }
-    ensures { (fs ks ns rt rk rv gs us : List ℕ) → outcome result (tables fs lasts.now ks values.new ns rt rk rv gs us)
-        ≡ raise_in (tables fs lasts.now ks values.old ns rt rk rv gs us) series station count }
+fn raise_in(columns: &mut Lent<'_>, series: u32, station: u32, count: Serial) -> Answer
+    requires { (series_count ≤ length columns.old.lasts.now) × (place_count ≤ length columns.old.values.now) × (series < series_count) × (station < station_count) }
+    ensures same { SameColumns columns.old columns.new }
+    ensures leaves { outcome result (lent columns.new)
+        ≡ raise_in (lent columns.old) series station count }
 {
     let at = series as usize * STATIONS + station as usize;
-    let value = values[at];
-    if is_beyond(lasts[series as usize], value, count) {
+    let value = columns.values[at];
+    if is_beyond(columns.lasts[series as usize], value, count) {
         return Answer::Range;
     }
     if GREATEST_SERIAL as u64 + 1 < value as u64 + count as u64 {
         return Answer::Range;
     }
-    values[at] = value + count;
+    columns.values[at] = value + count;
     Answer::Done(0)
 }
 
 // COMMIT's share: a drawn count is added to the copy's value, unless the sum would pass last + 1 or the greatest last number + 1.
-pub fn raise(
-    lasts: &[Serial],
-    values: &mut [Serial],
-    series: u32,
-    station: u32,
-    count: Serial,
-) -> Answer
-    ensures { (fs ks ns rt rk rv gs us : List ℕ) → outcome result (tables fs lasts.now ks values.new ns rt rk rv gs us)
-        ≡ raise (tables fs lasts.now ks values.old ns rt rk rv gs us) series station count }
+pub fn raise(columns: &mut Lent<'_>, series: u32, station: u32, count: Serial) -> Answer
+    ensures same { SameColumns columns.old columns.new }
+    ensures leaves { outcome result (lent columns.new)
+        ≡ raise (lent columns.old) series station count }
 {
-    if (lasts.len() < SERIES) | (values.len() < PLACES) {
+    if (columns.lasts.len() < SERIES) | (columns.values.len() < PLACES) {
         return Answer::Short;
     }
     if bad_copy(series, station) {
         return Answer::BadEvent;
     }
-    raise_in(lasts, values, series, station, count)
+    raise_in(columns, series, station, count)
 }

@@ -1,66 +1,71 @@
 // CRASH and RESTART: a station's mark.
-ghost use Rattle.std.specs.Prelude.{◌≡◌, List, ℕ, ◌*◌, ◌+◌, ◌<◌, ◌≤◌, eqb, length, get_or};
+ghost use Rattle.std.specs.Prelude.{◌≡◌, ◌*◌, ◌+◌, ◌<◌, ◌≤◌, eqb, length, get_or};
 ghost use Rattle.words.specs.Numbers.{station_count, series_count, place_count};
 ghost use Rattle.words.specs.Tests.{non, one_if, sum_below};
-ghost use Rattle.copies.specs.Tables.{tables, place};
+ghost use Rattle.copies.specs.Columns.{lent, SameColumns};
+ghost use Rattle.copies.specs.Tables.{place};
 ghost use Rattle.copies.specs.Calls.{outcome, crash, restart, restart_in};
 
+use crate::Lent;
 use crate::read::if_held;
 use words::{Answer, PLACES, SERIES, STATIONS};
 
 // 16 CRASH, the station's mark alone: closing its jobs is the upper layer's part.
-pub fn crash(up: &mut [u32], station: u32) -> Answer
-    ensures { (fs ls ks vs ns rt rk rv gs : List ℕ) → outcome result (tables fs ls ks vs ns rt rk rv gs up.new)
-        ≡ crash (tables fs ls ks vs ns rt rk rv gs up.old) station }
+pub fn crash(columns: &mut Lent<'_>, station: u32) -> Answer
+    ensures same { SameColumns columns.old columns.new }
+    ensures leaves { outcome result (lent columns.new)
+        ≡ crash (lent columns.old) station }
 {
-    if up.len() < STATIONS {
+    if columns.up.len() < STATIONS {
         return Answer::Short;
     }
     if STATIONS <= station as usize {
         return Answer::BadEvent;
     }
-    if up[station as usize] != 1 {
+    if columns.up[station as usize] != 1 {
         return Answer::Down;
     }
-    up[station as usize] = 0;
+    columns.up[station as usize] = 0;
     Answer::Done(0)
 }
 
 // How many copies of the station are not void.
-fn held_count(kinds: &[u32], station: u32) -> u32
-    requires { (place_count ≤ length kinds.now) × (station < station_count) }
-    ensures { result ≡ sum_below series_count (λ s. one_if (non (eqb (get_or kinds.now (place s station) 0) 0))) }
+fn held_count(columns: &Lent<'_>, station: u32) -> u32
+    requires { (place_count ≤ length columns.now.kinds.now) × (station < station_count) }
+    ensures { result ≡ sum_below series_count (λ s. one_if (non (eqb (get_or columns.now.kinds.now (place s station) 0) 0))) }
 {
     let mut count = 0;
     for s in 0..SERIES {
-        count = count + if_held(kinds[s * STATIONS + station as usize], 1);
+        count = count + if_held(columns.kinds[s * STATIONS + station as usize], 1);
     }
     count
 }
 
 // RESTART where refusals 1 and 3 are not given.
-fn restart_in(kinds: &[u32], up: &mut [u32], station: u32) -> Answer
-    requires { (place_count ≤ length kinds.now) × (station_count ≤ length up.old) × (station < station_count) }
-    ensures { (fs ls vs ns rt rk rv gs : List ℕ) → outcome result (tables fs ls kinds.now vs ns rt rk rv gs up.new)
-        ≡ restart_in (tables fs ls kinds.now vs ns rt rk rv gs up.old) station }
+fn restart_in(columns: &mut Lent<'_>, station: u32) -> Answer
+    requires { (place_count ≤ length columns.old.kinds.now) × (station_count ≤ length columns.old.up.now) × (station < station_count) }
+    ensures same { SameColumns columns.old columns.new }
+    ensures leaves { outcome result (lent columns.new)
+        ≡ restart_in (lent columns.old) station }
 {
-    if up[station as usize] == 1 {
+    if columns.up[station as usize] == 1 {
         return Answer::Up;
     }
-    up[station as usize] = 1;
-    Answer::Done(held_count(kinds, station))
+    columns.up[station as usize] = 1;
+    Answer::Done(held_count(columns, station))
 }
 
 // 17 RESTART: the station is up; the value is the number of its copies that are not void.
-pub fn restart(kinds: &[u32], up: &mut [u32], station: u32) -> Answer
-    ensures { (fs ls vs ns rt rk rv gs : List ℕ) → outcome result (tables fs ls kinds.now vs ns rt rk rv gs up.new)
-        ≡ restart (tables fs ls kinds.now vs ns rt rk rv gs up.old) station }
+pub fn restart(columns: &mut Lent<'_>, station: u32) -> Answer
+    ensures same { SameColumns columns.old columns.new }
+    ensures leaves { outcome result (lent columns.new)
+        ≡ restart (lent columns.old) station }
 {
-    if (kinds.len() < PLACES) | (up.len() < STATIONS) {
+    if (columns.kinds.len() < PLACES) | (columns.up.len() < STATIONS) {
         return Answer::Short;
     }
     if STATIONS <= station as usize {
         return Answer::BadEvent;
     }
-    restart_in(kinds, up, station)
+    restart_in(columns, station)
 }

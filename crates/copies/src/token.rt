@@ -1,219 +1,182 @@
 // DEMOTE, DROP and PROMOTE: a station changes the kind of its own copy.
-ghost use Rattle.std.specs.Prelude.{◌≡◌, List, [], ℕ, ◌<◌, ◌≤◌, length};
+ghost use Rattle.std.specs.Prelude.{◌≡◌, ◌<◌, ◌≤◌, length};
 ghost use Rattle.words.specs.Numbers.{station_count, series_count, place_count, received_count};
-ghost use Rattle.copies.specs.Tables.{tables, series_in};
+ghost use Rattle.copies.specs.Columns.{lent, SameColumns};
+ghost use Rattle.copies.specs.Tables.{series_at};
 ghost use Rattle.copies.specs.Steps.{other_share, under_way};
 ghost use Rattle.copies.specs.Calls.{outcome, demote, demote_in, drop, drop_in, promote, promote_in};
 
+use crate::Lent;
 use crate::checks::bad_copy;
 use crate::read::is_undelivered;
-use words::{Answer, EXCLUSIVE, PLACES, RECEIVED, SERIES, SHARE, STATIONS, Serial, VOID};
+use words::{Answer, EXCLUSIVE, PLACES, RECEIVED, SERIES, SHARE, STATIONS, VOID};
 
 // DEMOTE where refusals 1 and 3 are not given.
-fn demote_in(
-    firsts: &[Serial],
-    kinds: &mut [u32],
-    up: &[u32],
-    free: bool,
-    series: u32,
-    station: u32,
-) -> Answer
-    requires { (series_count ≤ length firsts.now) × (place_count ≤ length kinds.old) × (station_count ≤ length up.now) × (series < series_count) × (station < station_count) }
-    ensures { (ls vs ns rt rk rv gs : List ℕ) → outcome result (tables firsts.now ls kinds.new vs ns rt rk rv gs up.now)
-        ≡ demote_in (tables firsts.now ls kinds.old vs ns rt rk rv gs up.now) free series station }
+fn demote_in(columns: &mut Lent<'_>, free: bool, series: u32, station: u32) -> Answer
+    requires { (series_count ≤ length columns.old.firsts.now) × (place_count ≤ length columns.old.kinds.now) × (station_count ≤ length columns.old.up.now) × (series < series_count) × (station < station_count) }
+    ensures same { SameColumns columns.old columns.new }
+    ensures leaves { outcome result (lent columns.new)
+        ≡ demote_in (lent columns.old) free series station }
 {
-    if firsts[series as usize] == 0 {
+    if columns.firsts[series as usize] == 0 {
         return Answer::None;
     }
-    if up[station as usize] != 1 {
+    if columns.up[station as usize] != 1 {
         return Answer::Down;
     }
     let at = series as usize * STATIONS + station as usize;
-    if kinds[at] != EXCLUSIVE {
+    if columns.kinds[at] != EXCLUSIVE {
         return Answer::Copy;
     }
     if !free {
         return Answer::Locked;
     }
-    kinds[at] = SHARE;
+    columns.kinds[at] = SHARE;
     Answer::Done(0)
 }
 
 // 10 DEMOTE: a free exclusive copy becomes share.
-pub fn demote(
-    firsts: &[Serial],
-    kinds: &mut [u32],
-    up: &[u32],
-    free: bool,
-    series: u32,
-    station: u32,
-) -> Answer
-    ensures { (ls vs ns rt rk rv gs : List ℕ) → outcome result (tables firsts.now ls kinds.new vs ns rt rk rv gs up.now)
-        ≡ demote (tables firsts.now ls kinds.old vs ns rt rk rv gs up.now) free series station }
+pub fn demote(columns: &mut Lent<'_>, free: bool, series: u32, station: u32) -> Answer
+    ensures same { SameColumns columns.old columns.new }
+    ensures leaves { outcome result (lent columns.new)
+        ≡ demote (lent columns.old) free series station }
 {
-    if (firsts.len() < SERIES) | (kinds.len() < PLACES) | (up.len() < STATIONS) {
-        return Answer::Short;
-    }
-    if bad_copy(series, station) {
-        return Answer::BadEvent;
-    }
-    demote_in(firsts, kinds, up, free, series, station)
-}
-
-// Whether another station holds a share copy.
-fn other_share(kinds: &[u32], series: u32, station: u32) -> bool
-    requires { (place_count ≤ length kinds.now) × (series < series_count) }
-    ensures { result ≡ other_share (series_in [] [] kinds.now [] [] [] [] [] [] series) station }
-{
-    let mut some = false;
-    for n in 0..STATIONS {
-        some = some | ((n != station as usize) & (kinds[series as usize * STATIONS + n] == SHARE));
-    }
-    some
-}
-
-// DROP where refusals 1 and 3 are not given.
-fn drop_in(
-    firsts: &[Serial],
-    kinds: &mut [u32],
-    up: &[u32],
-    free: bool,
-    series: u32,
-    station: u32,
-) -> Answer
-    requires { (series_count ≤ length firsts.now) × (place_count ≤ length kinds.old) × (station_count ≤ length up.now) × (series < series_count) × (station < station_count) }
-    ensures { (ls vs ns rt rk rv gs : List ℕ) → outcome result (tables firsts.now ls kinds.new vs ns rt rk rv gs up.now)
-        ≡ drop_in (tables firsts.now ls kinds.old vs ns rt rk rv gs up.now) free series station }
-{
-    if firsts[series as usize] == 0 {
-        return Answer::None;
-    }
-    if up[station as usize] != 1 {
-        return Answer::Down;
-    }
-    let at = series as usize * STATIONS + station as usize;
-    if kinds[at] != SHARE {
-        return Answer::Copy;
-    }
-    if !free {
-        return Answer::Locked;
-    }
-    if !other_share(kinds, series, station) {
-        return Answer::Others;
-    }
-    kinds[at] = VOID;
-    Answer::Done(0)
-}
-
-// 12 DROP: a free share copy, not the only one, becomes void.
-pub fn drop(
-    firsts: &[Serial],
-    kinds: &mut [u32],
-    up: &[u32],
-    free: bool,
-    series: u32,
-    station: u32,
-) -> Answer
-    ensures { (ls vs ns rt rk rv gs : List ℕ) → outcome result (tables firsts.now ls kinds.new vs ns rt rk rv gs up.now)
-        ≡ drop (tables firsts.now ls kinds.old vs ns rt rk rv gs up.now) free series station }
-{
-    if (firsts.len() < SERIES) | (kinds.len() < PLACES) | (up.len() < STATIONS) {
-        return Answer::Short;
-    }
-    if bad_copy(series, station) {
-        return Answer::BadEvent;
-    }
-    drop_in(firsts, kinds, up, free, series, station)
-}
-
-// Whether a transfer of the series is undelivered.
-fn under_way(sent: &[u32], relto: &[u32], relkind: &[u32], received: &[u32], series: u32) -> bool
-    requires { (place_count ≤ length sent.now) × (place_count ≤ length relto.now) × (place_count ≤ length relkind.now) × (received_count ≤ length received.now) × (series < series_count) }
-    ensures { result ≡ under_way (series_in [] [] [] [] sent.now relto.now relkind.now [] received.now series) }
-{
-    let mut some = false;
-    for n in 0..STATIONS {
-        let at = series as usize * STATIONS + n;
-        some = some
-            | is_undelivered(
-                received,
-                series as usize,
-                n,
-                relkind[at],
-                relto[at],
-                sent[at],
-            );
-    }
-    some
-}
-
-// PROMOTE where refusals 1 and 3 are not given.
-fn promote_in(
-    firsts: &[Serial],
-    kinds: &mut [u32],
-    sent: &[u32],
-    relto: &[u32],
-    relkind: &[u32],
-    received: &[u32],
-    up: &[u32],
-    free: bool,
-    series: u32,
-    station: u32,
-) -> Answer
-    requires { (series_count ≤ length firsts.now) × (place_count ≤ length kinds.old) × (place_count ≤ length sent.now) × (place_count ≤ length relto.now) × (place_count ≤ length relkind.now) × (received_count ≤ length received.now) × (station_count ≤ length up.now) × (series < series_count) × (station < station_count) }
-    ensures { (ls vs rv : List ℕ) → outcome result (tables firsts.now ls kinds.new vs sent.now relto.now relkind.now rv received.now up.now)
-        ≡ promote_in (tables firsts.now ls kinds.old vs sent.now relto.now relkind.now rv received.now up.now) free series station }
-{
-    if firsts[series as usize] == 0 {
-        return Answer::None;
-    }
-    if up[station as usize] != 1 {
-        return Answer::Down;
-    }
-    let at = series as usize * STATIONS + station as usize;
-    if kinds[at] != SHARE {
-        return Answer::Copy;
-    }
-    if !free {
-        return Answer::Locked;
-    }
-    if other_share(kinds, series, station) | under_way(sent, relto, relkind, received, series) {
-        return Answer::Others;
-    }
-    kinds[at] = EXCLUSIVE;
-    Answer::Done(0)
-}
-
-// 13 PROMOTE: a free share copy, the only share of the series, becomes exclusive.
-pub fn promote(
-    firsts: &[Serial],
-    kinds: &mut [u32],
-    sent: &[u32],
-    relto: &[u32],
-    relkind: &[u32],
-    received: &[u32],
-    up: &[u32],
-    free: bool,
-    series: u32,
-    station: u32,
-) -> Answer
-    ensures { (ls vs rv : List ℕ) → outcome result (tables firsts.now ls kinds.new vs sent.now relto.now relkind.now rv received.now up.now)
-        ≡ promote (tables firsts.now ls kinds.old vs sent.now relto.now relkind.now rv received.now up.now) free series station }
-{
-    if (firsts.len() < SERIES)
-        | (kinds.len() < PLACES)
-        | (sent.len() < PLACES)
-        | (relto.len() < PLACES)
-        | (relkind.len() < PLACES)
-        | (received.len() < RECEIVED)
-        | (up.len() < STATIONS)
+    if (columns.firsts.len() < SERIES)
+        | (columns.kinds.len() < PLACES)
+        | (columns.up.len() < STATIONS)
     {
         return Answer::Short;
     }
     if bad_copy(series, station) {
         return Answer::BadEvent;
     }
-    promote_in(
-        firsts, kinds, sent, relto, relkind, received, up, free, series, station,
-    )
+    demote_in(columns, free, series, station)
+}
+
+// Whether another station holds a share copy.
+fn other_share(columns: &Lent<'_>, series: u32, station: u32) -> bool
+    requires { (place_count ≤ length columns.now.kinds.now) × (series < series_count) }
+    ensures { result ≡ other_share (series_at (lent columns.now) series) station }
+{
+    let mut some = false;
+    for n in 0..STATIONS {
+        some = some
+            | ((n != station as usize) & (columns.kinds[series as usize * STATIONS + n] == SHARE));
+    }
+    some
+}
+
+// DROP where refusals 1 and 3 are not given.
+fn drop_in(columns: &mut Lent<'_>, free: bool, series: u32, station: u32) -> Answer
+    requires { (series_count ≤ length columns.old.firsts.now) × (place_count ≤ length columns.old.kinds.now) × (station_count ≤ length columns.old.up.now) × (series < series_count) × (station < station_count) }
+    ensures same { SameColumns columns.old columns.new }
+    ensures leaves { outcome result (lent columns.new)
+        ≡ drop_in (lent columns.old) free series station }
+{
+    if columns.firsts[series as usize] == 0 {
+        return Answer::None;
+    }
+    if columns.up[station as usize] != 1 {
+        return Answer::Down;
+    }
+    let at = series as usize * STATIONS + station as usize;
+    if columns.kinds[at] != SHARE {
+        return Answer::Copy;
+    }
+    if !free {
+        return Answer::Locked;
+    }
+    if !other_share(columns, series, station) {
+        return Answer::Others;
+    }
+    columns.kinds[at] = VOID;
+    Answer::Done(0)
+}
+
+// 12 DROP: a free share copy, not the only one, becomes void.
+pub fn drop(columns: &mut Lent<'_>, free: bool, series: u32, station: u32) -> Answer
+    ensures same { SameColumns columns.old columns.new }
+    ensures leaves { outcome result (lent columns.new)
+        ≡ drop (lent columns.old) free series station }
+{
+    if (columns.firsts.len() < SERIES)
+        | (columns.kinds.len() < PLACES)
+        | (columns.up.len() < STATIONS)
+    {
+        return Answer::Short;
+    }
+    if bad_copy(series, station) {
+        return Answer::BadEvent;
+    }
+    drop_in(columns, free, series, station)
+}
+
+// Whether a transfer of the series is undelivered.
+fn under_way(columns: &Lent<'_>, series: u32) -> bool
+    requires { (place_count ≤ length columns.now.sent.now) × (place_count ≤ length columns.now.relto.now) × (place_count ≤ length columns.now.relkind.now) × (received_count ≤ length columns.now.received.now) × (series < series_count) }
+    ensures { result ≡ under_way (series_at (lent columns.now) series) }
+{
+    let mut some = false;
+    for n in 0..STATIONS {
+        let at = series as usize * STATIONS + n;
+        some = some
+            | is_undelivered(
+                columns.received,
+                series as usize,
+                n,
+                columns.relkind[at],
+                columns.relto[at],
+                columns.sent[at],
+            );
+    }
+    some
+}
+
+// PROMOTE where refusals 1 and 3 are not given.
+fn promote_in(columns: &mut Lent<'_>, free: bool, series: u32, station: u32) -> Answer
+    requires { (series_count ≤ length columns.old.firsts.now) × (place_count ≤ length columns.old.kinds.now) × (place_count ≤ length columns.old.sent.now) × (place_count ≤ length columns.old.relto.now) × (place_count ≤ length columns.old.relkind.now) × (received_count ≤ length columns.old.received.now) × (station_count ≤ length columns.old.up.now) × (series < series_count) × (station < station_count) }
+    ensures same { SameColumns columns.old columns.new }
+    ensures leaves { outcome result (lent columns.new)
+        ≡ promote_in (lent columns.old) free series station }
+{
+    if columns.firsts[series as usize] == 0 {
+        return Answer::None;
+    }
+    if columns.up[station as usize] != 1 {
+        return Answer::Down;
+    }
+    let at = series as usize * STATIONS + station as usize;
+    if columns.kinds[at] != SHARE {
+        return Answer::Copy;
+    }
+    if !free {
+        return Answer::Locked;
+    }
+    if other_share(columns, series, station) | under_way(columns, series) {
+        return Answer::Others;
+    }
+    columns.kinds[at] = EXCLUSIVE;
+    Answer::Done(0)
+}
+
+// 13 PROMOTE: a free share copy, the only share of the series, becomes exclusive.
+pub fn promote(columns: &mut Lent<'_>, free: bool, series: u32, station: u32) -> Answer
+    ensures same { SameColumns columns.old columns.new }
+    ensures leaves { outcome result (lent columns.new)
+        ≡ promote (lent columns.old) free series station }
+{
+    if (columns.firsts.len() < SERIES)
+        | (columns.kinds.len() < PLACES)
+        | (columns.sent.len() < PLACES)
+        | (columns.relto.len() < PLACES)
+        | (columns.relkind.len() < PLACES)
+        | (columns.received.len() < RECEIVED)
+        | (columns.up.len() < STATIONS)
+    {
+        return Answer::Short;
+    }
+    if bad_copy(series, station) {
+        return Answer::BadEvent;
+    }
+    promote_in(columns, free, series, station)
 }

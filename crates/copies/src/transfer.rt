@@ -1,339 +1,237 @@
 // SEND, SHARE, GRANT and ACK: a token goes from station to station by a Release, a message and an acknowledgment.
-ghost use Rattle.std.specs.Prelude.{◌≡◌, List, ℕ, ◌<◌, ◌≤◌, length};
+ghost use Rattle.std.specs.Prelude.{◌≡◌, ◌<◌, ◌≤◌, length};
 ghost use Rattle.words.specs.Numbers.{station_count, series_count, place_count, received_count};
-ghost use Rattle.copies.specs.Tables.{tables};
+ghost use Rattle.copies.specs.Columns.{lent, SameColumns};
 ghost use Rattle.copies.specs.Calls.{outcome, send, send_in, send_share, share_in, grant, grant_in, ack, ack_in};
 
+use crate::Lent;
 use crate::checks::{bad_message, bad_transfer};
-use words::{
-    Answer, EXCLUSIVE, GREATEST_SENT, PLACES, RECEIVED, SERIES, SHARE, STATIONS, Serial, VOID,
-};
+use words::{Answer, EXCLUSIVE, GREATEST_SENT, PLACES, RECEIVED, SERIES, SHARE, STATIONS, VOID};
 
 // SEND where refusals 1 and 3 are not given.
-fn send_in(
-    firsts: &[Serial],
-    kinds: &mut [u32],
-    values: &[Serial],
-    sent: &mut [u32],
-    relto: &mut [u32],
-    relkind: &mut [u32],
-    relvalue: &mut [Serial],
-    up: &[u32],
-    free: bool,
-    series: u32,
-    from: u32,
-    to: u32,
-) -> Answer
-    requires { (series_count ≤ length firsts.now) × (place_count ≤ length kinds.old) × (place_count ≤ length values.now) × (place_count ≤ length sent.old) × (place_count ≤ length relto.old) × (place_count ≤ length relkind.old) × (place_count ≤ length relvalue.old) × (station_count ≤ length up.now) × (series < series_count) × (from < station_count) × (to < station_count) }
-    ensures { (ls gs : List ℕ) → outcome result (tables firsts.now ls kinds.new values.now sent.new relto.new relkind.new relvalue.new gs up.now)
-        ≡ send_in (tables firsts.now ls kinds.old values.now sent.old relto.old relkind.old relvalue.old gs up.now) free series from to }
+fn send_in(columns: &mut Lent<'_>, free: bool, series: u32, from: u32, to: u32) -> Answer
+    requires { (series_count ≤ length columns.old.firsts.now) × (place_count ≤ length columns.old.kinds.now) × (place_count ≤ length columns.old.values.now) × (place_count ≤ length columns.old.sent.now) × (place_count ≤ length columns.old.relto.now) × (place_count ≤ length columns.old.relkind.now) × (place_count ≤ length columns.old.relvalue.now) × (station_count ≤ length columns.old.up.now) × (series < series_count) × (from < station_count) × (to < station_count) }
+    ensures same { SameColumns columns.old columns.new }
+    ensures leaves { outcome result (lent columns.new)
+        ≡ send_in (lent columns.old) free series from to }
 {
-    if firsts[series as usize] == 0 {
+    if columns.firsts[series as usize] == 0 {
         return Answer::None;
     }
-    if up[from as usize] != 1 {
+    if columns.up[from as usize] != 1 {
         return Answer::Down;
     }
     let at = series as usize * STATIONS + from as usize;
-    if kinds[at] != EXCLUSIVE {
+    if columns.kinds[at] != EXCLUSIVE {
         return Answer::Copy;
     }
     if !free {
         return Answer::Locked;
     }
-    if relkind[at] != 0 {
+    if columns.relkind[at] != 0 {
         return Answer::Wait;
     }
-    let number = sent[at];
+    let number = columns.sent[at];
     if GREATEST_SENT <= number {
         return Answer::Spent;
     }
-    kinds[at] = VOID;
-    sent[at] = number + 1;
-    relto[at] = to;
-    relkind[at] = EXCLUSIVE;
-    relvalue[at] = values[at];
+    columns.kinds[at] = VOID;
+    columns.sent[at] = number + 1;
+    columns.relto[at] = to;
+    columns.relkind[at] = EXCLUSIVE;
+    columns.relvalue[at] = columns.values[at];
     Answer::Done(number + 1)
 }
 
 // 9 SEND: a free exclusive copy becomes void, and a Release of kind 2 takes its value.
-pub fn send(
-    firsts: &[Serial],
-    kinds: &mut [u32],
-    values: &[Serial],
-    sent: &mut [u32],
-    relto: &mut [u32],
-    relkind: &mut [u32],
-    relvalue: &mut [Serial],
-    up: &[u32],
-    free: bool,
-    series: u32,
-    from: u32,
-    to: u32,
-) -> Answer
-    ensures { (ls gs : List ℕ) → outcome result (tables firsts.now ls kinds.new values.now sent.new relto.new relkind.new relvalue.new gs up.now)
-        ≡ send (tables firsts.now ls kinds.old values.now sent.old relto.old relkind.old relvalue.old gs up.now) free series from to }
+pub fn send(columns: &mut Lent<'_>, free: bool, series: u32, from: u32, to: u32) -> Answer
+    ensures same { SameColumns columns.old columns.new }
+    ensures leaves { outcome result (lent columns.new)
+        ≡ send (lent columns.old) free series from to }
 {
-    if (firsts.len() < SERIES)
-        | (kinds.len() < PLACES)
-        | (values.len() < PLACES)
-        | (sent.len() < PLACES)
-        | (relto.len() < PLACES)
-        | (relkind.len() < PLACES)
-        | (relvalue.len() < PLACES)
-        | (up.len() < STATIONS)
+    if (columns.firsts.len() < SERIES)
+        | (columns.kinds.len() < PLACES)
+        | (columns.values.len() < PLACES)
+        | (columns.sent.len() < PLACES)
+        | (columns.relto.len() < PLACES)
+        | (columns.relkind.len() < PLACES)
+        | (columns.relvalue.len() < PLACES)
+        | (columns.up.len() < STATIONS)
     {
         return Answer::Short;
     }
     if bad_transfer(series, from, to) {
         return Answer::BadEvent;
     }
-    send_in(
-        firsts, kinds, values, sent, relto, relkind, relvalue, up, free, series, from, to,
-    )
+    send_in(columns, free, series, from, to)
 }
 
 // SHARE where refusals 1 and 3 are not given.
-fn share_in(
-    firsts: &[Serial],
-    kinds: &[u32],
-    values: &[Serial],
-    sent: &mut [u32],
-    relto: &mut [u32],
-    relkind: &mut [u32],
-    relvalue: &mut [Serial],
-    up: &[u32],
-    series: u32,
-    from: u32,
-    to: u32,
-) -> Answer
-    requires { (series_count ≤ length firsts.now) × (place_count ≤ length kinds.now) × (place_count ≤ length values.now) × (place_count ≤ length sent.old) × (place_count ≤ length relto.old) × (place_count ≤ length relkind.old) × (place_count ≤ length relvalue.old) × (station_count ≤ length up.now) × (series < series_count) × (from < station_count) × (to < station_count) }
-    ensures { (ls gs : List ℕ) → outcome result (tables firsts.now ls kinds.now values.now sent.new relto.new relkind.new relvalue.new gs up.now)
-        ≡ share_in (tables firsts.now ls kinds.now values.now sent.old relto.old relkind.old relvalue.old gs up.now) series from to }
+fn share_in(columns: &mut Lent<'_>, series: u32, from: u32, to: u32) -> Answer
+    requires { (series_count ≤ length columns.old.firsts.now) × (place_count ≤ length columns.old.kinds.now) × (place_count ≤ length columns.old.values.now) × (place_count ≤ length columns.old.sent.now) × (place_count ≤ length columns.old.relto.now) × (place_count ≤ length columns.old.relkind.now) × (place_count ≤ length columns.old.relvalue.now) × (station_count ≤ length columns.old.up.now) × (series < series_count) × (from < station_count) × (to < station_count) }
+    ensures same { SameColumns columns.old columns.new }
+    ensures leaves { outcome result (lent columns.new)
+        ≡ share_in (lent columns.old) series from to }
 {
-    if firsts[series as usize] == 0 {
+    if columns.firsts[series as usize] == 0 {
         return Answer::None;
     }
-    if up[from as usize] != 1 {
+    if columns.up[from as usize] != 1 {
         return Answer::Down;
     }
     let at = series as usize * STATIONS + from as usize;
-    if kinds[at] != SHARE {
+    if columns.kinds[at] != SHARE {
         return Answer::Copy;
     }
-    if relkind[at] != 0 {
+    if columns.relkind[at] != 0 {
         return Answer::Wait;
     }
-    let number = sent[at];
+    let number = columns.sent[at];
     if GREATEST_SENT <= number {
         return Answer::Spent;
     }
-    sent[at] = number + 1;
-    relto[at] = to;
-    relkind[at] = SHARE;
-    relvalue[at] = values[at];
+    columns.sent[at] = number + 1;
+    columns.relto[at] = to;
+    columns.relkind[at] = SHARE;
+    columns.relvalue[at] = columns.values[at];
     Answer::Done(number + 1)
 }
 
 // 11 SHARE: from keeps its share copy, and a Release of kind 1 takes its value.
-pub fn share(
-    firsts: &[Serial],
-    kinds: &[u32],
-    values: &[Serial],
-    sent: &mut [u32],
-    relto: &mut [u32],
-    relkind: &mut [u32],
-    relvalue: &mut [Serial],
-    up: &[u32],
-    series: u32,
-    from: u32,
-    to: u32,
-) -> Answer
-    ensures { (ls gs : List ℕ) → outcome result (tables firsts.now ls kinds.now values.now sent.new relto.new relkind.new relvalue.new gs up.now)
-        ≡ send_share (tables firsts.now ls kinds.now values.now sent.old relto.old relkind.old relvalue.old gs up.now) series from to }
+pub fn share(columns: &mut Lent<'_>, series: u32, from: u32, to: u32) -> Answer
+    ensures same { SameColumns columns.old columns.new }
+    ensures leaves { outcome result (lent columns.new)
+        ≡ send_share (lent columns.old) series from to }
 {
-    if (firsts.len() < SERIES)
-        | (kinds.len() < PLACES)
-        | (values.len() < PLACES)
-        | (sent.len() < PLACES)
-        | (relto.len() < PLACES)
-        | (relkind.len() < PLACES)
-        | (relvalue.len() < PLACES)
-        | (up.len() < STATIONS)
+    if (columns.firsts.len() < SERIES)
+        | (columns.kinds.len() < PLACES)
+        | (columns.values.len() < PLACES)
+        | (columns.sent.len() < PLACES)
+        | (columns.relto.len() < PLACES)
+        | (columns.relkind.len() < PLACES)
+        | (columns.relvalue.len() < PLACES)
+        | (columns.up.len() < STATIONS)
     {
         return Answer::Short;
     }
     if bad_transfer(series, from, to) {
         return Answer::BadEvent;
     }
-    share_in(
-        firsts, kinds, values, sent, relto, relkind, relvalue, up, series, from, to,
-    )
+    share_in(columns, series, from, to)
 }
 
 // GRANT where refusals 1 and 3 are not given.
-fn grant_in(
-    firsts: &[Serial],
-    kinds: &mut [u32],
-    values: &mut [Serial],
-    sent: &[u32],
-    relto: &[u32],
-    relkind: &[u32],
-    relvalue: &[Serial],
-    received: &mut [u32],
-    up: &[u32],
-    series: u32,
-    from: u32,
-    to: u32,
-    number: u32,
-) -> Answer
-    requires { (series_count ≤ length firsts.now) × (place_count ≤ length kinds.old) × (place_count ≤ length values.old) × (place_count ≤ length sent.now) × (place_count ≤ length relto.now) × (place_count ≤ length relkind.now) × (place_count ≤ length relvalue.now) × (received_count ≤ length received.old) × (station_count ≤ length up.now) × (series < series_count) × (from < station_count) × (to < station_count) }
-    ensures { (ls : List ℕ) → outcome result (tables firsts.now ls kinds.new values.new sent.now relto.now relkind.now relvalue.now received.new up.now)
-        ≡ grant_in (tables firsts.now ls kinds.old values.old sent.now relto.now relkind.now relvalue.now received.old up.now) series from to number }
+fn grant_in(columns: &mut Lent<'_>, series: u32, from: u32, to: u32, number: u32) -> Answer
+    requires { (series_count ≤ length columns.old.firsts.now) × (place_count ≤ length columns.old.kinds.now) × (place_count ≤ length columns.old.values.now) × (place_count ≤ length columns.old.sent.now) × (place_count ≤ length columns.old.relto.now) × (place_count ≤ length columns.old.relkind.now) × (place_count ≤ length columns.old.relvalue.now) × (received_count ≤ length columns.old.received.now) × (station_count ≤ length columns.old.up.now) × (series < series_count) × (from < station_count) × (to < station_count) }
+    ensures same { SameColumns columns.old columns.new }
+    ensures leaves { outcome result (lent columns.new)
+        ≡ grant_in (lent columns.old) series from to number }
 {
-    if firsts[series as usize] == 0 {
+    if columns.firsts[series as usize] == 0 {
         return Answer::None;
     }
-    if up[to as usize] != 1 {
+    if columns.up[to as usize] != 1 {
         return Answer::Down;
     }
     let source = series as usize * STATIONS + from as usize;
     let at = series as usize * STATIONS + to as usize;
-    if number <= received[at * STATIONS + from as usize] {
+    if number <= columns.received[at * STATIONS + from as usize] {
         return Answer::Done(0);
     }
-    if relkind[source] == 0 {
+    if columns.relkind[source] == 0 {
         return Answer::NoMessage;
     }
-    if relto[source] != to {
+    if columns.relto[source] != to {
         return Answer::NoMessage;
     }
-    if sent[source] != number {
+    if columns.sent[source] != number {
         return Answer::NoMessage;
     }
-    kinds[at] = relkind[source];
-    values[at] = relvalue[source];
-    received[at * STATIONS + from as usize] = number;
+    columns.kinds[at] = columns.relkind[source];
+    columns.values[at] = columns.relvalue[source];
+    columns.received[at * STATIONS + from as usize] = number;
     Answer::Done(1)
 }
 
 // 14 GRANT: the transfer arrives, once; a repeat is known by its number alone.
-pub fn grant(
-    firsts: &[Serial],
-    kinds: &mut [u32],
-    values: &mut [Serial],
-    sent: &[u32],
-    relto: &[u32],
-    relkind: &[u32],
-    relvalue: &[Serial],
-    received: &mut [u32],
-    up: &[u32],
-    series: u32,
-    from: u32,
-    to: u32,
-    number: u32,
-) -> Answer
-    ensures { (ls : List ℕ) → outcome result (tables firsts.now ls kinds.new values.new sent.now relto.now relkind.now relvalue.now received.new up.now)
-        ≡ grant (tables firsts.now ls kinds.old values.old sent.now relto.now relkind.now relvalue.now received.old up.now) series from to number }
+pub fn grant(columns: &mut Lent<'_>, series: u32, from: u32, to: u32, number: u32) -> Answer
+    ensures same { SameColumns columns.old columns.new }
+    ensures leaves { outcome result (lent columns.new)
+        ≡ grant (lent columns.old) series from to number }
 {
-    if (firsts.len() < SERIES)
-        | (kinds.len() < PLACES)
-        | (values.len() < PLACES)
-        | (sent.len() < PLACES)
-        | (relto.len() < PLACES)
-        | (relkind.len() < PLACES)
-        | (relvalue.len() < PLACES)
-        | (received.len() < RECEIVED)
-        | (up.len() < STATIONS)
+    if (columns.firsts.len() < SERIES)
+        | (columns.kinds.len() < PLACES)
+        | (columns.values.len() < PLACES)
+        | (columns.sent.len() < PLACES)
+        | (columns.relto.len() < PLACES)
+        | (columns.relkind.len() < PLACES)
+        | (columns.relvalue.len() < PLACES)
+        | (columns.received.len() < RECEIVED)
+        | (columns.up.len() < STATIONS)
     {
         return Answer::Short;
     }
     if bad_message(series, from, to, number) {
         return Answer::BadEvent;
     }
-    grant_in(
-        firsts, kinds, values, sent, relto, relkind, relvalue, received, up, series, from, to,
-        number,
-    )
+    grant_in(columns, series, from, to, number)
 }
 
 // ACK where refusals 1 and 3 are not given.
-fn ack_in(
-    firsts: &[Serial],
-    sent: &[u32],
-    relto: &mut [u32],
-    relkind: &mut [u32],
-    relvalue: &mut [Serial],
-    received: &[u32],
-    up: &[u32],
-    series: u32,
-    from: u32,
-    to: u32,
-    number: u32,
-) -> Answer
-    requires { (series_count ≤ length firsts.now) × (place_count ≤ length sent.now) × (place_count ≤ length relto.old) × (place_count ≤ length relkind.old) × (place_count ≤ length relvalue.old) × (received_count ≤ length received.now) × (station_count ≤ length up.now) × (series < series_count) × (from < station_count) × (to < station_count) }
-    ensures { (ls ks vs : List ℕ) → outcome result (tables firsts.now ls ks vs sent.now relto.new relkind.new relvalue.new received.now up.now)
-        ≡ ack_in (tables firsts.now ls ks vs sent.now relto.old relkind.old relvalue.old received.now up.now) series from to number }
+fn ack_in(columns: &mut Lent<'_>, series: u32, from: u32, to: u32, number: u32) -> Answer
+    requires { (series_count ≤ length columns.old.firsts.now) × (place_count ≤ length columns.old.sent.now) × (place_count ≤ length columns.old.relto.now) × (place_count ≤ length columns.old.relkind.now) × (place_count ≤ length columns.old.relvalue.now) × (received_count ≤ length columns.old.received.now) × (station_count ≤ length columns.old.up.now) × (series < series_count) × (from < station_count) × (to < station_count) }
+    ensures same { SameColumns columns.old columns.new }
+    ensures leaves { outcome result (lent columns.new)
+        ≡ ack_in (lent columns.old) series from to number }
 {
-    if firsts[series as usize] == 0 {
+    if columns.firsts[series as usize] == 0 {
         return Answer::None;
     }
-    if up[from as usize] != 1 {
+    if columns.up[from as usize] != 1 {
         return Answer::Down;
     }
     let at = series as usize * STATIONS + from as usize;
-    if sent[at] < number {
+    if columns.sent[at] < number {
         return Answer::NoMessage;
     }
-    if relkind[at] == 0 {
+    if columns.relkind[at] == 0 {
         return Answer::Done(0);
     }
-    if relto[at] != to {
+    if columns.relto[at] != to {
         return Answer::Done(0);
     }
-    if sent[at] != number {
+    if columns.sent[at] != number {
         return Answer::Done(0);
     }
-    if received[(series as usize * STATIONS + to as usize) * STATIONS + from as usize] < number {
+    if columns.received[(series as usize * STATIONS + to as usize) * STATIONS + from as usize]
+        < number
+    {
         return Answer::NoMessage;
     }
-    relto[at] = 0;
-    relkind[at] = 0;
-    relvalue[at] = 0;
+    columns.relto[at] = 0;
+    columns.relkind[at] = 0;
+    columns.relvalue[at] = 0;
     Answer::Done(1)
 }
 
 // 15 ACK: of a delivered transfer its standing Release is deleted; anything late is ignored (X7).
-pub fn ack(
-    firsts: &[Serial],
-    sent: &[u32],
-    relto: &mut [u32],
-    relkind: &mut [u32],
-    relvalue: &mut [Serial],
-    received: &[u32],
-    up: &[u32],
-    series: u32,
-    from: u32,
-    to: u32,
-    number: u32,
-) -> Answer
-    ensures { (ls ks vs : List ℕ) → outcome result (tables firsts.now ls ks vs sent.now relto.new relkind.new relvalue.new received.now up.now)
-        ≡ ack (tables firsts.now ls ks vs sent.now relto.old relkind.old relvalue.old received.now up.now) series from to number }
+pub fn ack(columns: &mut Lent<'_>, series: u32, from: u32, to: u32, number: u32) -> Answer
+    ensures same { SameColumns columns.old columns.new }
+    ensures leaves { outcome result (lent columns.new)
+        ≡ ack (lent columns.old) series from to number }
 {
-    if (firsts.len() < SERIES)
-        | (sent.len() < PLACES)
-        | (relto.len() < PLACES)
-        | (relkind.len() < PLACES)
-        | (relvalue.len() < PLACES)
-        | (received.len() < RECEIVED)
-        | (up.len() < STATIONS)
+    if (columns.firsts.len() < SERIES)
+        | (columns.sent.len() < PLACES)
+        | (columns.relto.len() < PLACES)
+        | (columns.relkind.len() < PLACES)
+        | (columns.relvalue.len() < PLACES)
+        | (columns.received.len() < RECEIVED)
+        | (columns.up.len() < STATIONS)
     {
         return Answer::Short;
     }
     if bad_message(series, from, to, number) {
         return Answer::BadEvent;
     }
-    ack_in(
-        firsts, sent, relto, relkind, relvalue, received, up, series, from, to, number,
-    )
+    ack_in(columns, series, from, to, number)
 }

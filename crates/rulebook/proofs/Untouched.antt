@@ -12,7 +12,7 @@ use Rattle.words.specs.Numbers.{station_count, series_count, job_count, place_co
 use Rattle.words.specs.Tests.{◌or◌}
 use Rattle.copies.specs.Tables.{Copies, short_copies}
 use Rattle.copies.proofs.Long.{Long}
-use Rattle.copies.proofs.Columns.{OnlyBelow}
+use Rattle.copies.proofs.Stores.{OnlyBelow}
 use Rattle.copies.proofs.Leaves.{OnlyStated, only_long}
 use Rattle.copies.proofs.After.{after_raised}
 use Rattle.jobs.specs.declared.Lock.{Lock}
