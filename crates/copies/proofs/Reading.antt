@@ -3,7 +3,7 @@ use Prim.Native.Nat.{ℕ, ◌+◌, ◌*◌, ◌^◌, ◌≤◌, ◌<◌}
 use native.Mathlib.Nat.{pow-suc, pow-le-pow_right}
 use native.Mathlib.Numerals.{add-one}
 use native.Mathlib.Omega.{arith}
-use mathlib.Core.Path.{◌≡◌, sym, ap, ◌∙◌}
+use mathlib.Core.Path.{◌≡◌, refl, sym, ap, ◌∙◌}
 use mathlib.Core.Bool.{Bool, true, false}
 use mathlib.Core.List.{List}
 use lib.Dec.{eqb, leb}
@@ -12,6 +12,7 @@ use lib.ListN.{get_or, length}
 use Rattle.words.specs.Numbers.{station_count, series_count, place_count}
 use Rattle.words.specs.Tests.{non, ◌or◌, one_if, sum_below}
 use Rattle.words.proofs.Laws.{or_true, sum_next}
+use Rattle.copies.proofs.Guards.{guards}
 use Rattle.copies.specs.Tables.{Copies, series_at, place, is_open, is_up, kind, value}
 use Rattle.copies.specs.Steps.{is_beyond}
 use Rattle.copies.specs.Calls.{read, bad_copy, beyond}
@@ -31,6 +32,9 @@ module _ (size : ℕ) (column : List ℕ) (bad : Bool) (at : ℕ) where
   pub read_at : size ≤ length column → bad ≡ false → get_or column at 0 ≡ read size column bad at
   unfolding read ◌or◌
   read_at l e = rw (le-ltb _ _ l, e)
+
+-- each way out of a reading call
+pub ruleset ways = (read_short, read_bad, read_at, guards)
 
 -- ---- what the reading calls say of a series and a station that there are, where no column is short
 -- whether a series is open
@@ -60,22 +64,21 @@ module _ (t : Copies) (s n : ℕ) (series : s < series_count) (station : n < sta
   unfolding beyond ◌or◌
   read_beyond r count l m e = rw (le-ltb _ _ l, le-ltb _ _ m, copy_good s n series station) at e
 
--- ---- bits
+-- ---- sums and bits
+-- no turn yet
+pub sum_none : (f : ℕ → ℕ) → sum_below 0 f ≡ 0
+unfolding sum_below
+sum_none f = refl
+
+-- one turn more
+pub sum_more : (f : ℕ → ℕ) (n : ℕ) → sum_below (n + 1) f ≡ sum_below n f + f n
+unfolding sum_below
+sum_more f n = rw (add-one n)
+
 -- the next station's bit
-pub bit_next : (n j bit : ℕ) → bit ≡ 2 ^ n → j ≡ n + 1 → bit * 2 ≡ 2 ^ j
-bit_next n j bit p e = rw (e, add-one, p) (sym (pow-suc 2 n))
+pub bit_more : (n : ℕ) → 2 ^ (n + 1) ≡ 2 ^ n * 2
+bit_more n = rw (add-one n) (pow-suc 2 n)
 
 -- the bit of a station fits a byte
-pub bit_small : (n bit : ℕ) → bit ≡ 2 ^ n → n < 8 → bit ≤ 128
-bit_small n bit p l =
-    let few : n ≤ 7 = omega arith in
-    let least : 2 ^ n ≤ 2 ^ 7 = pow-le-pow_right (omega arith) few in
-    rw p least
-
--- and past the last station a byte is full
-pub bit_end : (n bit : ℕ) → bit ≡ 2 ^ n → n ≤ 8 → 8 ≤ n → bit ≡ 256
-bit_end n bit p l m = let same : n ≡ 8 = omega arith in p ∙ ap (λ (k : ℕ). 2 ^ k) same
-
--- one station more in the set
-pub set_next : (f : ℕ → Bool) (n j bit set r : ℕ) → bit ≡ 2 ^ n → set ≡ sum_below n (λ m. one_if (f m) * 2 ^ m) → r ≡ one_if (f n) * bit → j ≡ n + 1 → set + r ≡ sum_below j (λ m. one_if (f m) * 2 ^ m)
-set_next f n j bit set r p q e h = sum_next (λ m. one_if (f m) * 2 ^ m) n j set r q (e ∙ ap (λ (b : ℕ). one_if (f n) * b) p) h
+pub bit_small : (n : ℕ) → n < 8 → 2 ^ n ≤ 128
+bit_small n l = let few : n ≤ 7 = omega arith in pow-le-pow_right (omega arith) few

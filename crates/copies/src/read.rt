@@ -1,9 +1,12 @@
 // Reading: a copy's kind and value, whether a series is open and a station up, what is left of a series, and who holds it.
 // Where there is no such copy, series or station, or the column is short, a number reads as 0 and a set as empty.
-ghost use Rattle.std.specs.Prelude.{◌≡◌, ◌*◌, ◌<◌, ◌≤◌, [], eqb, ltb, leb, length, get_or};
+#![tactic(auto, using(crate::proofs::Reading::ways), unfolding(words::specs::Tests::non, words::specs::Tests::one_if, crate::specs::Calls::bad_copy, crate::specs::Calls::beyond, crate::specs::Calls::holders))]
+
+ghost use Rattle.std.specs.Prelude.{◌≡◌, ◌*◌, ◌<◌, ◌≤◌, eqb, ltb, leb, length, get_or};
 ghost use Rattle.words.specs.Numbers.{station_count, series_count, place_count, received_count};
 ghost use Rattle.words.specs.Tests.{non, ◌and◌, one_if};
-ghost use Rattle.copies.specs.Tables.{place, received_place, series_in};
+ghost use Rattle.copies.specs.Columns.{seen};
+ghost use Rattle.copies.specs.Tables.{place, received_place, series_at};
 ghost use Rattle.copies.specs.Steps.{holder_set};
 ghost use Rattle.copies.specs.Calls.{read, bad_copy, beyond, holders};
 
@@ -115,14 +118,15 @@ pub fn is_undelivered(
 }
 
 // The set, of a series that there is.
-fn holders_in(kinds: &[u32], series: u32) -> u8
-    requires { (place_count ≤ length kinds.now) × (series < series_count) }
-    ensures { result ≡ holder_set (series_in [] [] kinds.now [] [] [] [] [] [] series) }
+#[tactic(auto, using(crate::proofs::Reading::sum_none, crate::proofs::Reading::sum_more, crate::proofs::Reading::bit_more, crate::proofs::Reading::bit_small))]
+fn holders_in(columns: &Seen<'_>, series: u32) -> u8
+    requires { (place_count ≤ length columns.now.kinds.now) × (series < series_count) }
+    ensures { result ≡ holder_set (series_at (seen columns.now) series) }
 {
     let mut set: u32 = 0;
     let mut bit: u32 = 1;
     for n in 0..STATIONS {
-        set = set + if_held(kinds[series as usize * STATIONS + n], bit);
+        set = set + if_held(columns.kinds[series as usize * STATIONS + n], bit);
         bit = bit * 2;
     }
     set as u8
@@ -138,5 +142,5 @@ pub fn holders(columns: &Seen<'_>, series: u32) -> u8
     if SERIES <= series as usize {
         return 0;
     }
-    holders_in(columns.kinds, series)
+    holders_in(columns, series)
 }

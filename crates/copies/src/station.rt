@@ -1,9 +1,11 @@
 // CRASH and RESTART: a station's mark.
+#![tactic(auto, using(crate::proofs::Guards::guards), unfolding(words::specs::Tests::non, crate::specs::Steps::marked, crate::specs::Calls::crash, crate::specs::Calls::restart, crate::specs::Calls::restart_in))]
+
 ghost use Rattle.std.specs.Prelude.{◌≡◌, ◌*◌, ◌+◌, ◌<◌, ◌≤◌, eqb, length, get_or};
 ghost use Rattle.words.specs.Numbers.{station_count, series_count, place_count};
 ghost use Rattle.words.specs.Tests.{non, one_if, sum_below};
 ghost use Rattle.copies.specs.Columns.{lent, SameColumns};
-ghost use Rattle.copies.specs.Tables.{place};
+ghost use Rattle.copies.specs.Steps.{held_count};
 ghost use Rattle.copies.specs.Calls.{outcome, crash, restart, restart_in};
 
 use crate::Lent;
@@ -30,9 +32,10 @@ pub fn crash(columns: &mut Lent<'_>, station: u32) -> Answer
 }
 
 // How many copies of the station are not void.
+#[tactic(auto, using(crate::proofs::Reading::sum_none, crate::proofs::Reading::sum_more), unfolding(words::specs::Tests::one_if))]
 fn held_count(columns: &Lent<'_>, station: u32) -> u32
     requires { (place_count ≤ length columns.now.kinds.now) × (station < station_count) }
-    ensures { result ≡ sum_below series_count (λ s. one_if (non (eqb (get_or columns.now.kinds.now (place s station) 0) 0))) }
+    ensures { result ≡ held_count (lent columns.now) station }
 {
     let mut count = 0;
     for s in 0..SERIES {
