@@ -1,6 +1,7 @@
 // OPEN, and what COMMIT adds to a copy's value.
-ghost use Rattle.std.specs.Prelude.{◌≡◌, ◌-◌, ◌+◌, ◌<◌, ◌≤◌, ltb, length, replicate};
-ghost use Rattle.std.proofs.lemmas.List.Edits.{sets};
+#![tactic(auto, using(crate::proofs::Guards::guards), unfolding(words::specs::Tests::non, crate::specs::Steps::raised, crate::specs::Calls::open_series, crate::specs::Calls::short_opener, crate::specs::Calls::bad_opening, crate::specs::Calls::bad_copy, crate::specs::Calls::raise, crate::specs::Calls::raise_in))]
+
+ghost use Rattle.std.specs.Prelude.{◌≡◌, ◌-◌, ◌+◌, ◌<◌, ◌≤◌, ltb, length};
 ghost use Rattle.words.specs.Numbers.{station_count, series_count, place_count};
 ghost use Rattle.copies.specs.Columns.{lent, SameColumns};
 ghost use Rattle.copies.specs.Calls.{outcome, open_series, open_in, raise, raise_in};
@@ -9,17 +10,8 @@ use crate::Lent;
 use crate::checks::{bad_copy, bad_opening};
 use words::{Answer, EXCLUSIVE, GREATEST_SERIAL, PLACES, SERIES, STATIONS, Serial, VOID};
 
-// Writes a number at all eight stations of a series, from its row on.
-fn fill_row(column: &mut [u32], row: usize, number: u32)
-    requires { row + station_count ≤ length column.old }
-    ensures { column.new ≡ sets column.old row (replicate station_count number) }
-{
-    for n in 0..STATIONS {
-        column[row + n] = number;
-    }
-}
-
 // OPEN where refusals 1 and 3 are not given.
+#[tactic(auto, using(crate::proofs::Guards::guards), unfolding(words::specs::Tests::non, crate::specs::Steps::opened, crate::specs::Calls::open_in))]
 fn open_in(columns: &mut Lent<'_>, series: u32, first: Serial, last: Serial, station: u32) -> Answer
     requires { (series_count ≤ length columns.old.firsts.now) × (series_count ≤ length columns.old.lasts.now) × (place_count ≤ length columns.old.kinds.now) × (place_count ≤ length columns.old.values.now) × (station_count ≤ length columns.old.up.now) × (series < series_count) × (station < station_count) }
     ensures same { SameColumns columns.old columns.new }
@@ -34,9 +26,10 @@ fn open_in(columns: &mut Lent<'_>, series: u32, first: Serial, last: Serial, sta
     }
     columns.firsts[series as usize] = first;
     columns.lasts[series as usize] = last;
-    fill_row(columns.kinds, series as usize * STATIONS, VOID);
-    columns.kinds[series as usize * STATIONS + station as usize] = EXCLUSIVE;
-    fill_row(columns.values, series as usize * STATIONS, first);
+    let row = series as usize * STATIONS;
+    columns.kinds[row..row + STATIONS].fill(VOID);
+    columns.kinds[row + station as usize] = EXCLUSIVE;
+    columns.values[row..row + STATIONS].fill(first);
     Answer::Done(0)
 }
 
