@@ -3,15 +3,15 @@ use Prim.Native.Nat.{ℕ, ◌+◌, ◌*◌, ◌^◌, ◌≤◌, ◌<◌}
 use native.Mathlib.Nat.{pow-suc, pow-le-pow_right}
 use native.Mathlib.Numerals.{add-one}
 use native.Mathlib.Omega.{arith}
-use mathlib.Core.Path.{◌≡◌, refl, sym, ap, ◌∙◌}
+use mathlib.Core.Path.{◌≡◌, refl}
 use mathlib.Core.Bool.{Bool, true, false}
 use mathlib.Core.List.{List}
 use lib.Dec.{eqb, leb}
 use borrow.Author.Tests.{lt-ltb, le-ltb, lt-leb}
 use lib.ListN.{get_or, length}
 use Rattle.words.specs.Numbers.{station_count, series_count, place_count}
-use Rattle.words.specs.Tests.{non, ◌or◌, one_if, sum_below}
-use Rattle.words.proofs.Laws.{or_true, sum_next}
+use Rattle.words.specs.Tests.{non, ◌or◌, sum_below}
+use Rattle.words.proofs.Laws.{or_true}
 use Rattle.copies.proofs.Guards.{guards}
 use Rattle.copies.specs.Tables.{Copies, series_at, place, is_open, is_up, kind, value}
 use Rattle.copies.specs.Steps.{is_beyond}

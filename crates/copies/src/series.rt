@@ -1,19 +1,18 @@
 // OPEN, and what COMMIT adds to a copy's value.
-#![tactic(auto, using(crate::proofs::Guards::guards), unfolding(words::specs::Tests::non, crate::specs::Steps::raised, crate::specs::Calls::open_series, crate::specs::Calls::short_opener, crate::specs::Calls::bad_opening, crate::specs::Calls::bad_copy, crate::specs::Calls::raise, crate::specs::Calls::raise_in))]
-
-ghost use Rattle.std.specs.Prelude.{◌≡◌, ◌-◌, ◌+◌, ◌<◌, ◌≤◌, ltb, length};
+ghost use Rattle.std.specs.Prelude.{◌≡◌, ◌-◌, ◌+◌, ◌<◌, ◌≤◌, false, ltb, length};
 ghost use Rattle.words.specs.Numbers.{station_count, series_count, place_count};
 ghost use Rattle.copies.specs.Columns.{lent, SameColumns};
-ghost use Rattle.copies.specs.Calls.{outcome, open_series, open_in, raise, raise_in};
+ghost use Rattle.copies.specs.Calls.{outcome, bad_copy, short_opener, open_series, open_in, raise, raise_in};
 
 use crate::Lent;
 use crate::checks::{bad_copy, bad_opening};
 use words::{Answer, EXCLUSIVE, GREATEST_SERIAL, PLACES, SERIES, STATIONS, Serial, VOID};
 
 // OPEN where refusals 1 and 3 are not given.
-#[tactic(auto, using(crate::proofs::Guards::guards), unfolding(words::specs::Tests::non, crate::specs::Steps::opened, crate::specs::Calls::open_in))]
+#[tactic(auto, using(crate::proofs::Guards::guards), unfolding(crate::specs::Steps::opened, crate::specs::Calls::bad_copy, crate::specs::Calls::short_opener, crate::specs::Calls::open_in))]
 fn open_in(columns: &mut Lent<'_>, series: u32, first: Serial, last: Serial, station: u32) -> Answer
-    requires { (series_count ≤ length columns.old.firsts.now) × (series_count ≤ length columns.old.lasts.now) × (place_count ≤ length columns.old.kinds.now) × (place_count ≤ length columns.old.values.now) × (station_count ≤ length columns.old.up.now) × (series < series_count) × (station < station_count) }
+    requires long { short_opener (lent columns.old) ≡ false }
+    requires there { bad_copy series station ≡ false }
     ensures same { SameColumns columns.old columns.new }
     ensures leaves { outcome result (lent columns.new)
         ≡ open_in (lent columns.old) series first last station }
@@ -34,6 +33,7 @@ fn open_in(columns: &mut Lent<'_>, series: u32, first: Serial, last: Serial, sta
 }
 
 // 1 OPEN: exclusive at the station, void elsewhere, all values the first number.
+#[tactic(auto, using(crate::proofs::Guards::guards), unfolding(crate::specs::Calls::short_opener, crate::specs::Calls::bad_opening, crate::specs::Calls::open_series))]
 pub fn open_series(
     columns: &mut Lent<'_>,
     series: u32,
@@ -71,6 +71,7 @@ pub fn is_beyond(last: Serial, value: Serial, count: Serial) -> bool
 }
 
 // A committed count where refusals 1 and 3 are not given.
+#[tactic(auto, using(crate::proofs::Guards::guards), unfolding(crate::specs::Steps::raised, crate::specs::Calls::raise_in))]
 fn raise_in(columns: &mut Lent<'_>, series: u32, station: u32, count: Serial) -> Answer
     requires { (series_count ≤ length columns.old.lasts.now) × (place_count ≤ length columns.old.values.now) × (series < series_count) × (station < station_count) }
     ensures same { SameColumns columns.old columns.new }
@@ -90,6 +91,7 @@ fn raise_in(columns: &mut Lent<'_>, series: u32, station: u32, count: Serial) ->
 }
 
 // COMMIT's share: a drawn count is added to the copy's value, unless the sum would pass last + 1 or the greatest last number + 1.
+#[tactic(auto, using(crate::proofs::Guards::guards), unfolding(crate::specs::Calls::bad_copy, crate::specs::Calls::raise))]
 pub fn raise(columns: &mut Lent<'_>, series: u32, station: u32, count: Serial) -> Answer
     ensures same { SameColumns columns.old columns.new }
     ensures leaves { outcome result (lent columns.new)

@@ -1,9 +1,8 @@
 // CRASH and RESTART: a station's mark.
-#![tactic(auto, using(crate::proofs::Guards::guards), unfolding(words::specs::Tests::non, crate::specs::Steps::marked, crate::specs::Calls::crash, crate::specs::Calls::restart, crate::specs::Calls::restart_in))]
+#![tactic(auto, using(crate::proofs::Guards::guards), unfolding(crate::specs::Steps::marked, crate::specs::Calls::crash, crate::specs::Calls::restart, crate::specs::Calls::restart_in))]
 
-ghost use Rattle.std.specs.Prelude.{◌≡◌, ◌*◌, ◌+◌, ◌<◌, ◌≤◌, eqb, length, get_or};
-ghost use Rattle.words.specs.Numbers.{station_count, series_count, place_count};
-ghost use Rattle.words.specs.Tests.{non, one_if, sum_below};
+ghost use Rattle.std.specs.Prelude.{◌≡◌, ◌<◌, ◌≤◌, length};
+ghost use Rattle.words.specs.Numbers.{station_count, place_count};
 ghost use Rattle.copies.specs.Columns.{lent, SameColumns};
 ghost use Rattle.copies.specs.Steps.{held_count};
 ghost use Rattle.copies.specs.Calls.{outcome, crash, restart, restart_in};
