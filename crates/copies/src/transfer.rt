@@ -1,16 +1,31 @@
 // SEND, SHARE, GRANT and ACK: a token goes from station to station by a Release, a message and an acknowledgment.
-ghost use Rattle.std.specs.Prelude.{◌≡◌, ◌<◌, ◌≤◌, length};
-ghost use Rattle.words.specs.Numbers.{station_count, series_count, place_count, received_count};
+ghost use Rattle.std.specs.Prelude.{◌≡◌, false};
 ghost use Rattle.copies.specs.Columns.{lent, SameColumns};
-ghost use Rattle.copies.specs.Calls.{outcome, send, send_in, send_share, share_in, grant, grant_in, ack, ack_in};
+ghost use Rattle.copies.specs.Calls.{outcome, bad_transfer, bad_message, short_sender, short_receiver, short_source, send, send_in, send_share, share_in, grant, grant_in, ack, ack_in};
 
 use crate::Lent;
 use crate::checks::{bad_message, bad_transfer};
 use words::{Answer, EXCLUSIVE, GREATEST_SENT, PLACES, RECEIVED, SERIES, SHARE, STATIONS, VOID};
 
+// Whether a column of SEND or SHARE is short.
+#[tactic(auto, using(words::proofs::Laws::flag_or), unfolding(crate::specs::Calls::short_sender))]
+fn short_sender(columns: &Lent<'_>) -> bool
+    ensures { result ≡ short_sender (lent columns.now) }
+{
+    (columns.firsts.len() < SERIES)
+        | (columns.kinds.len() < PLACES)
+        | (columns.values.len() < PLACES)
+        | (columns.sent.len() < PLACES)
+        | (columns.relto.len() < PLACES)
+        | (columns.relkind.len() < PLACES)
+        | (columns.relvalue.len() < PLACES)
+        | (columns.up.len() < STATIONS)
+}
+
 // SEND where refusals 1 and 3 are not given.
+#[tactic(auto, using(words::proofs::Guards::decided, crate::proofs::Guards::within), unfolding(crate::specs::Calls::send_in, crate::specs::Calls::short_sender, crate::specs::Calls::bad_transfer, crate::specs::Steps::sent_off, crate::specs::Steps::released, crate::specs::Steps::is_spent))]
 fn send_in(columns: &mut Lent<'_>, free: bool, series: u32, from: u32, to: u32) -> Answer
-    requires { (series_count ≤ length columns.old.firsts.now) × (place_count ≤ length columns.old.kinds.now) × (place_count ≤ length columns.old.values.now) × (place_count ≤ length columns.old.sent.now) × (place_count ≤ length columns.old.relto.now) × (place_count ≤ length columns.old.relkind.now) × (place_count ≤ length columns.old.relvalue.now) × (station_count ≤ length columns.old.up.now) × (series < series_count) × (from < station_count) × (to < station_count) }
+    requires { (short_sender (lent columns.old) ≡ false) × (bad_transfer series from to ≡ false) }
     ensures same { SameColumns columns.old columns.new }
     ensures leaves { outcome result (lent columns.new)
         ≡ send_in (lent columns.old) free series from to }
@@ -44,20 +59,13 @@ fn send_in(columns: &mut Lent<'_>, free: bool, series: u32, from: u32, to: u32) 
 }
 
 // 9 SEND: a free exclusive copy becomes void, and a Release of kind 2 takes its value.
+#[tactic(auto, using(words::proofs::Guards::decided), unfolding(crate::specs::Calls::send))]
 pub fn send(columns: &mut Lent<'_>, free: bool, series: u32, from: u32, to: u32) -> Answer
     ensures same { SameColumns columns.old columns.new }
     ensures leaves { outcome result (lent columns.new)
         ≡ send (lent columns.old) free series from to }
 {
-    if (columns.firsts.len() < SERIES)
-        | (columns.kinds.len() < PLACES)
-        | (columns.values.len() < PLACES)
-        | (columns.sent.len() < PLACES)
-        | (columns.relto.len() < PLACES)
-        | (columns.relkind.len() < PLACES)
-        | (columns.relvalue.len() < PLACES)
-        | (columns.up.len() < STATIONS)
-    {
+    if short_sender(columns) {
         return Answer::Short;
     }
     if bad_transfer(series, from, to) {
@@ -67,8 +75,9 @@ pub fn send(columns: &mut Lent<'_>, free: bool, series: u32, from: u32, to: u32)
 }
 
 // SHARE where refusals 1 and 3 are not given.
+#[tactic(auto, using(words::proofs::Guards::decided, crate::proofs::Guards::within), unfolding(crate::specs::Calls::share_in, crate::specs::Calls::short_sender, crate::specs::Calls::bad_transfer, crate::specs::Steps::shared, crate::specs::Steps::released, crate::specs::Steps::is_spent))]
 fn share_in(columns: &mut Lent<'_>, series: u32, from: u32, to: u32) -> Answer
-    requires { (series_count ≤ length columns.old.firsts.now) × (place_count ≤ length columns.old.kinds.now) × (place_count ≤ length columns.old.values.now) × (place_count ≤ length columns.old.sent.now) × (place_count ≤ length columns.old.relto.now) × (place_count ≤ length columns.old.relkind.now) × (place_count ≤ length columns.old.relvalue.now) × (station_count ≤ length columns.old.up.now) × (series < series_count) × (from < station_count) × (to < station_count) }
+    requires { (short_sender (lent columns.old) ≡ false) × (bad_transfer series from to ≡ false) }
     ensures same { SameColumns columns.old columns.new }
     ensures leaves { outcome result (lent columns.new)
         ≡ share_in (lent columns.old) series from to }
@@ -98,20 +107,13 @@ fn share_in(columns: &mut Lent<'_>, series: u32, from: u32, to: u32) -> Answer
 }
 
 // 11 SHARE: from keeps its share copy, and a Release of kind 1 takes its value.
+#[tactic(auto, using(words::proofs::Guards::decided), unfolding(crate::specs::Calls::send_share))]
 pub fn share(columns: &mut Lent<'_>, series: u32, from: u32, to: u32) -> Answer
     ensures same { SameColumns columns.old columns.new }
     ensures leaves { outcome result (lent columns.new)
         ≡ send_share (lent columns.old) series from to }
 {
-    if (columns.firsts.len() < SERIES)
-        | (columns.kinds.len() < PLACES)
-        | (columns.values.len() < PLACES)
-        | (columns.sent.len() < PLACES)
-        | (columns.relto.len() < PLACES)
-        | (columns.relkind.len() < PLACES)
-        | (columns.relvalue.len() < PLACES)
-        | (columns.up.len() < STATIONS)
-    {
+    if short_sender(columns) {
         return Answer::Short;
     }
     if bad_transfer(series, from, to) {
@@ -120,9 +122,26 @@ pub fn share(columns: &mut Lent<'_>, series: u32, from: u32, to: u32) -> Answer
     share_in(columns, series, from, to)
 }
 
+// Whether a column of GRANT is short.
+#[tactic(auto, using(words::proofs::Laws::flag_or), unfolding(crate::specs::Calls::short_receiver))]
+fn short_receiver(columns: &Lent<'_>) -> bool
+    ensures { result ≡ short_receiver (lent columns.now) }
+{
+    (columns.firsts.len() < SERIES)
+        | (columns.kinds.len() < PLACES)
+        | (columns.values.len() < PLACES)
+        | (columns.sent.len() < PLACES)
+        | (columns.relto.len() < PLACES)
+        | (columns.relkind.len() < PLACES)
+        | (columns.relvalue.len() < PLACES)
+        | (columns.received.len() < RECEIVED)
+        | (columns.up.len() < STATIONS)
+}
+
 // GRANT where refusals 1 and 3 are not given.
+#[tactic(auto, using(words::proofs::Guards::decided, crate::proofs::Guards::within, crate::proofs::Messages::messages), unfolding(crate::specs::Calls::grant_in, crate::specs::Calls::short_receiver, crate::specs::Calls::bad_message, crate::specs::Calls::bad_transfer, crate::specs::Steps::arrived))]
 fn grant_in(columns: &mut Lent<'_>, series: u32, from: u32, to: u32, number: u32) -> Answer
-    requires { (series_count ≤ length columns.old.firsts.now) × (place_count ≤ length columns.old.kinds.now) × (place_count ≤ length columns.old.values.now) × (place_count ≤ length columns.old.sent.now) × (place_count ≤ length columns.old.relto.now) × (place_count ≤ length columns.old.relkind.now) × (place_count ≤ length columns.old.relvalue.now) × (received_count ≤ length columns.old.received.now) × (station_count ≤ length columns.old.up.now) × (series < series_count) × (from < station_count) × (to < station_count) }
+    requires { (short_receiver (lent columns.old) ≡ false) × (bad_message series from to number ≡ false) }
     ensures same { SameColumns columns.old columns.new }
     ensures leaves { outcome result (lent columns.new)
         ≡ grant_in (lent columns.old) series from to number }
@@ -154,21 +173,13 @@ fn grant_in(columns: &mut Lent<'_>, series: u32, from: u32, to: u32, number: u32
 }
 
 // 14 GRANT: the transfer arrives, once; a repeat is known by its number alone.
+#[tactic(auto, using(words::proofs::Guards::decided), unfolding(crate::specs::Calls::grant))]
 pub fn grant(columns: &mut Lent<'_>, series: u32, from: u32, to: u32, number: u32) -> Answer
     ensures same { SameColumns columns.old columns.new }
     ensures leaves { outcome result (lent columns.new)
         ≡ grant (lent columns.old) series from to number }
 {
-    if (columns.firsts.len() < SERIES)
-        | (columns.kinds.len() < PLACES)
-        | (columns.values.len() < PLACES)
-        | (columns.sent.len() < PLACES)
-        | (columns.relto.len() < PLACES)
-        | (columns.relkind.len() < PLACES)
-        | (columns.relvalue.len() < PLACES)
-        | (columns.received.len() < RECEIVED)
-        | (columns.up.len() < STATIONS)
-    {
+    if short_receiver(columns) {
         return Answer::Short;
     }
     if bad_message(series, from, to, number) {
@@ -177,9 +188,24 @@ pub fn grant(columns: &mut Lent<'_>, series: u32, from: u32, to: u32, number: u3
     grant_in(columns, series, from, to, number)
 }
 
+// Whether a column of ACK is short.
+#[tactic(auto, using(words::proofs::Laws::flag_or), unfolding(crate::specs::Calls::short_source))]
+fn short_source(columns: &Lent<'_>) -> bool
+    ensures { result ≡ short_source (lent columns.now) }
+{
+    (columns.firsts.len() < SERIES)
+        | (columns.sent.len() < PLACES)
+        | (columns.relto.len() < PLACES)
+        | (columns.relkind.len() < PLACES)
+        | (columns.relvalue.len() < PLACES)
+        | (columns.received.len() < RECEIVED)
+        | (columns.up.len() < STATIONS)
+}
+
 // ACK where refusals 1 and 3 are not given.
+#[tactic(auto, using(words::proofs::Guards::decided, crate::proofs::Guards::within, crate::proofs::Messages::messages), unfolding(crate::specs::Calls::ack_in, crate::specs::Calls::short_source, crate::specs::Calls::bad_message, crate::specs::Calls::bad_transfer, crate::specs::Steps::deleted))]
 fn ack_in(columns: &mut Lent<'_>, series: u32, from: u32, to: u32, number: u32) -> Answer
-    requires { (series_count ≤ length columns.old.firsts.now) × (place_count ≤ length columns.old.sent.now) × (place_count ≤ length columns.old.relto.now) × (place_count ≤ length columns.old.relkind.now) × (place_count ≤ length columns.old.relvalue.now) × (received_count ≤ length columns.old.received.now) × (station_count ≤ length columns.old.up.now) × (series < series_count) × (from < station_count) × (to < station_count) }
+    requires { (short_source (lent columns.old) ≡ false) × (bad_message series from to number ≡ false) }
     ensures same { SameColumns columns.old columns.new }
     ensures leaves { outcome result (lent columns.new)
         ≡ ack_in (lent columns.old) series from to number }
@@ -215,19 +241,13 @@ fn ack_in(columns: &mut Lent<'_>, series: u32, from: u32, to: u32, number: u32) 
 }
 
 // 15 ACK: of a delivered transfer its standing Release is deleted; anything late is ignored (X7).
+#[tactic(auto, using(words::proofs::Guards::decided), unfolding(crate::specs::Calls::ack))]
 pub fn ack(columns: &mut Lent<'_>, series: u32, from: u32, to: u32, number: u32) -> Answer
     ensures same { SameColumns columns.old columns.new }
     ensures leaves { outcome result (lent columns.new)
         ≡ ack (lent columns.old) series from to number }
 {
-    if (columns.firsts.len() < SERIES)
-        | (columns.sent.len() < PLACES)
-        | (columns.relto.len() < PLACES)
-        | (columns.relkind.len() < PLACES)
-        | (columns.relvalue.len() < PLACES)
-        | (columns.received.len() < RECEIVED)
-        | (columns.up.len() < STATIONS)
-    {
+    if short_source(columns) {
         return Answer::Short;
     }
     if bad_message(series, from, to, number) {
