@@ -20,7 +20,7 @@ fn short_holder(columns: &Lent<'_>) -> bool
 }
 
 // DEMOTE where refusals 1 and 3 are not given.
-#[tactic(auto, using(words::proofs::Guards::decided, crate::proofs::Guards::within), unfolding(crate::specs::Calls::demote_in, crate::specs::Steps::demoted, crate::specs::Calls::short_holder, crate::specs::Calls::bad_copy))]
+#[tactic(auto, using(crate::proofs::Guards::guards), unfolding(crate::specs::Calls::demote_in, crate::specs::Calls::short_holder, crate::specs::Calls::bad_copy, crate::specs::Steps::demoted))]
 fn demote_in(columns: &mut Lent<'_>, free: bool, series: u32, station: u32) -> Answer
     requires { (short_holder (lent columns.old) ≡ false) × (bad_copy series station ≡ false) }
     ensures same { SameColumns columns.old columns.new }
@@ -61,7 +61,7 @@ pub fn demote(columns: &mut Lent<'_>, free: bool, series: u32, station: u32) -> 
 }
 
 // Whether another station holds a share copy.
-#[tactic(auto, using(words::proofs::Laws::some_none, words::proofs::Laws::some_next, words::proofs::Laws::some_end, words::proofs::Laws::flags))]
+#[tactic(auto, using(words::proofs::Laws::some_none, words::proofs::Laws::some_end))]
 fn other_share(columns: &Lent<'_>, series: u32, station: u32) -> bool
     requires { (place_count ≤ length columns.now.kinds.now) × (series < series_count) }
     ensures { result ≡ other_share (series_at (lent columns.now) series) station }
@@ -75,7 +75,7 @@ fn other_share(columns: &Lent<'_>, series: u32, station: u32) -> bool
 }
 
 // DROP where refusals 1 and 3 are not given.
-#[tactic(auto, using(words::proofs::Guards::decided, crate::proofs::Guards::within), unfolding(crate::specs::Calls::drop_in, crate::specs::Calls::short_holder, crate::specs::Calls::bad_copy, crate::specs::Steps::dropped))]
+#[tactic(auto, using(crate::proofs::Guards::guards), unfolding(crate::specs::Calls::drop_in, crate::specs::Calls::short_holder, crate::specs::Calls::bad_copy, crate::specs::Steps::dropped))]
 fn drop_in(columns: &mut Lent<'_>, free: bool, series: u32, station: u32) -> Answer
     requires { (short_holder (lent columns.old) ≡ false) × (bad_copy series station ≡ false) }
     ensures same { SameColumns columns.old columns.new }
@@ -155,7 +155,7 @@ fn short_promoter(columns: &Lent<'_>) -> bool
 }
 
 // PROMOTE where refusals 1 and 3 are not given.
-#[tactic(auto, using(words::proofs::Guards::decided, crate::proofs::Guards::within), unfolding(crate::specs::Calls::promote_in, crate::specs::Calls::short_promoter, crate::specs::Calls::bad_copy, crate::specs::Steps::promoted))]
+#[tactic(auto, using(crate::proofs::Guards::guards), unfolding(crate::specs::Calls::promote_in, crate::specs::Calls::short_promoter, crate::specs::Calls::bad_copy, crate::specs::Steps::promoted))]
 fn promote_in(columns: &mut Lent<'_>, free: bool, series: u32, station: u32) -> Answer
     requires { (short_promoter (lent columns.old) ≡ false) × (bad_copy series station ≡ false) }
     ensures same { SameColumns columns.old columns.new }

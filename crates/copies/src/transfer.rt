@@ -23,7 +23,7 @@ fn short_sender(columns: &Lent<'_>) -> bool
 }
 
 // SEND where refusals 1 and 3 are not given.
-#[tactic(auto, using(words::proofs::Guards::decided, crate::proofs::Guards::within), unfolding(crate::specs::Calls::send_in, crate::specs::Calls::short_sender, crate::specs::Calls::bad_transfer, crate::specs::Steps::sent_off, crate::specs::Steps::released, crate::specs::Steps::is_spent))]
+#[tactic(auto, using(crate::proofs::Guards::guards), unfolding(crate::specs::Calls::send_in, crate::specs::Calls::short_sender, crate::specs::Calls::bad_transfer, crate::specs::Steps::sent_off, crate::specs::Steps::released, crate::specs::Steps::is_spent))]
 fn send_in(columns: &mut Lent<'_>, free: bool, series: u32, from: u32, to: u32) -> Answer
     requires { (short_sender (lent columns.old) ≡ false) × (bad_transfer series from to ≡ false) }
     ensures same { SameColumns columns.old columns.new }
@@ -75,7 +75,7 @@ pub fn send(columns: &mut Lent<'_>, free: bool, series: u32, from: u32, to: u32)
 }
 
 // SHARE where refusals 1 and 3 are not given.
-#[tactic(auto, using(words::proofs::Guards::decided, crate::proofs::Guards::within), unfolding(crate::specs::Calls::share_in, crate::specs::Calls::short_sender, crate::specs::Calls::bad_transfer, crate::specs::Steps::shared, crate::specs::Steps::released, crate::specs::Steps::is_spent))]
+#[tactic(auto, using(crate::proofs::Guards::guards), unfolding(crate::specs::Calls::share_in, crate::specs::Calls::short_sender, crate::specs::Calls::bad_transfer, crate::specs::Steps::shared, crate::specs::Steps::released, crate::specs::Steps::is_spent))]
 fn share_in(columns: &mut Lent<'_>, series: u32, from: u32, to: u32) -> Answer
     requires { (short_sender (lent columns.old) ≡ false) × (bad_transfer series from to ≡ false) }
     ensures same { SameColumns columns.old columns.new }
@@ -139,7 +139,7 @@ fn short_receiver(columns: &Lent<'_>) -> bool
 }
 
 // GRANT where refusals 1 and 3 are not given.
-#[tactic(auto, using(words::proofs::Guards::decided, crate::proofs::Guards::within, crate::proofs::Messages::messages), unfolding(crate::specs::Calls::grant_in, crate::specs::Calls::short_receiver, crate::specs::Calls::bad_message, crate::specs::Calls::bad_transfer, crate::specs::Steps::arrived))]
+#[tactic(auto, using(crate::proofs::Guards::guards, crate::proofs::Messages::messages), unfolding(crate::specs::Calls::grant_in, crate::specs::Calls::short_receiver, crate::specs::Calls::bad_message, crate::specs::Calls::bad_transfer, crate::specs::Steps::arrived))]
 fn grant_in(columns: &mut Lent<'_>, series: u32, from: u32, to: u32, number: u32) -> Answer
     requires { (short_receiver (lent columns.old) ≡ false) × (bad_message series from to number ≡ false) }
     ensures same { SameColumns columns.old columns.new }
@@ -203,7 +203,7 @@ fn short_source(columns: &Lent<'_>) -> bool
 }
 
 // ACK where refusals 1 and 3 are not given.
-#[tactic(auto, using(words::proofs::Guards::decided, crate::proofs::Guards::within, crate::proofs::Messages::messages), unfolding(crate::specs::Calls::ack_in, crate::specs::Calls::short_source, crate::specs::Calls::bad_message, crate::specs::Calls::bad_transfer, crate::specs::Steps::deleted))]
+#[tactic(auto, using(crate::proofs::Guards::guards, crate::proofs::Messages::messages), unfolding(crate::specs::Calls::ack_in, crate::specs::Calls::short_source, crate::specs::Calls::bad_message, crate::specs::Calls::bad_transfer, crate::specs::Steps::deleted))]
 fn ack_in(columns: &mut Lent<'_>, series: u32, from: u32, to: u32, number: u32) -> Answer
     requires { (short_source (lent columns.old) ≡ false) × (bad_message series from to number ≡ false) }
     ensures same { SameColumns columns.old columns.new }
