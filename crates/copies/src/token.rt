@@ -20,7 +20,7 @@ fn short_holder(columns: &Lent<'_>) -> bool
 }
 
 // DEMOTE where refusals 1 and 3 are not given.
-#[tactic(auto, using(crate::proofs::Guards::guards), unfolding(crate::specs::Calls::demote_in, crate::specs::Calls::short_holder, crate::specs::Calls::bad_copy, crate::specs::Steps::demoted))]
+#[tactic(auto, using(crate::proofs::Guards::guards), unfolding(crate::specs::Calls::demote_in, crate::specs::Calls::short_holder, crate::specs::Calls::bad_copy, crate::specs::Steps::demoted, words::specs::Tests::refuse_if, words::specs::Tests::non))]
 fn demote_in(columns: &mut Lent<'_>, free: bool, series: u32, station: u32) -> Answer
     requires { (short_holder (lent columns.old) ≡ false) × (bad_copy series station ≡ false) }
     ensures same { SameColumns columns.old columns.new }
@@ -45,7 +45,7 @@ fn demote_in(columns: &mut Lent<'_>, free: bool, series: u32, station: u32) -> A
 }
 
 // 10 DEMOTE: a free exclusive copy becomes share.
-#[tactic(auto, using(words::proofs::Guards::decided), unfolding(crate::specs::Calls::demote))]
+#[tactic(auto, unfolding(crate::specs::Calls::demote, words::specs::Tests::refuse_if))]
 pub fn demote(columns: &mut Lent<'_>, free: bool, series: u32, station: u32) -> Answer
     ensures same { SameColumns columns.old columns.new }
     ensures leaves { outcome result (lent columns.new)
@@ -63,7 +63,8 @@ pub fn demote(columns: &mut Lent<'_>, free: bool, series: u32, station: u32) -> 
 // Whether another station holds a share copy.
 #[tactic(auto, using(words::proofs::Laws::some_none, words::proofs::Laws::some_end))]
 fn other_share(columns: &Lent<'_>, series: u32, station: u32) -> bool
-    requires { (place_count ≤ length columns.now.kinds.now) × (series < series_count) }
+    requires kind { place_count ≤ length columns.now.kinds.now }
+    requires there { series < series_count }
     ensures { result ≡ other_share (series_at (lent columns.now) series) station }
 {
     let mut some = false;
@@ -75,7 +76,7 @@ fn other_share(columns: &Lent<'_>, series: u32, station: u32) -> bool
 }
 
 // DROP where refusals 1 and 3 are not given.
-#[tactic(auto, using(crate::proofs::Guards::guards), unfolding(crate::specs::Calls::drop_in, crate::specs::Calls::short_holder, crate::specs::Calls::bad_copy, crate::specs::Steps::dropped))]
+#[tactic(auto, using(crate::proofs::Guards::guards), unfolding(crate::specs::Calls::drop_in, crate::specs::Calls::short_holder, crate::specs::Calls::bad_copy, crate::specs::Steps::dropped, words::specs::Tests::refuse_if, words::specs::Tests::non))]
 fn drop_in(columns: &mut Lent<'_>, free: bool, series: u32, station: u32) -> Answer
     requires { (short_holder (lent columns.old) ≡ false) × (bad_copy series station ≡ false) }
     ensures same { SameColumns columns.old columns.new }
@@ -103,7 +104,7 @@ fn drop_in(columns: &mut Lent<'_>, free: bool, series: u32, station: u32) -> Ans
 }
 
 // 12 DROP: a free share copy, not the only one, becomes void.
-#[tactic(auto, using(words::proofs::Guards::decided), unfolding(crate::specs::Calls::drop))]
+#[tactic(auto, unfolding(crate::specs::Calls::drop, words::specs::Tests::refuse_if))]
 pub fn drop(columns: &mut Lent<'_>, free: bool, series: u32, station: u32) -> Answer
     ensures same { SameColumns columns.old columns.new }
     ensures leaves { outcome result (lent columns.new)
@@ -121,7 +122,11 @@ pub fn drop(columns: &mut Lent<'_>, free: bool, series: u32, station: u32) -> An
 // Whether a transfer of the series is undelivered.
 #[tactic(auto, using(words::proofs::Laws::some_none, words::proofs::Laws::some_next, words::proofs::Laws::some_end))]
 fn under_way(columns: &Lent<'_>, series: u32) -> bool
-    requires { (place_count ≤ length columns.now.sent.now) × (place_count ≤ length columns.now.relto.now) × (place_count ≤ length columns.now.relkind.now) × (received_count ≤ length columns.now.received.now) × (series < series_count) }
+    requires sent { place_count ≤ length columns.now.sent.now }
+    requires to { place_count ≤ length columns.now.relto.now }
+    requires kind { place_count ≤ length columns.now.relkind.now }
+    requires received { received_count ≤ length columns.now.received.now }
+    requires there { series < series_count }
     ensures { result ≡ under_way (series_at (lent columns.now) series) }
 {
     let mut some = false;
@@ -155,7 +160,7 @@ fn short_promoter(columns: &Lent<'_>) -> bool
 }
 
 // PROMOTE where refusals 1 and 3 are not given.
-#[tactic(auto, using(crate::proofs::Guards::guards), unfolding(crate::specs::Calls::promote_in, crate::specs::Calls::short_promoter, crate::specs::Calls::bad_copy, crate::specs::Steps::promoted))]
+#[tactic(auto, using(crate::proofs::Guards::guards), unfolding(crate::specs::Calls::promote_in, crate::specs::Calls::short_promoter, crate::specs::Calls::bad_copy, crate::specs::Steps::promoted, words::specs::Tests::refuse_if, words::specs::Tests::non))]
 fn promote_in(columns: &mut Lent<'_>, free: bool, series: u32, station: u32) -> Answer
     requires { (short_promoter (lent columns.old) ≡ false) × (bad_copy series station ≡ false) }
     ensures same { SameColumns columns.old columns.new }
@@ -183,7 +188,7 @@ fn promote_in(columns: &mut Lent<'_>, free: bool, series: u32, station: u32) -> 
 }
 
 // 13 PROMOTE: a free share copy, the only share of the series, becomes exclusive.
-#[tactic(auto, using(words::proofs::Guards::decided), unfolding(crate::specs::Calls::promote))]
+#[tactic(auto, unfolding(crate::specs::Calls::promote, words::specs::Tests::refuse_if))]
 pub fn promote(columns: &mut Lent<'_>, free: bool, series: u32, station: u32) -> Answer
     ensures same { SameColumns columns.old columns.new }
     ensures leaves { outcome result (lent columns.new)
