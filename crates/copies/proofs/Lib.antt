@@ -1,6 +1,5 @@
 -- what the calls' proofs share
 pub mod Guards
-pub mod Messages
 pub mod Filled
 pub mod Reading
 -- what the walk's proofs share

@@ -1,19 +1,28 @@
 // DEMOTE, DROP and PROMOTE: a station changes the kind of its own copy.
-ghost use Rattle.std.specs.Prelude.{◌≡◌, ◌<◌, ◌≤◌, length};
+ghost use Rattle.std.specs.Prelude.{◌≡◌, false, ◌<◌, ◌≤◌, length};
 ghost use Rattle.words.specs.Numbers.{station_count, series_count, place_count, received_count};
 ghost use Rattle.copies.specs.Columns.{lent, SameColumns};
 ghost use Rattle.copies.specs.Tables.{series_at};
 ghost use Rattle.copies.specs.Steps.{other_share, under_way};
-ghost use Rattle.copies.specs.Calls.{outcome, demote, demote_in, drop, drop_in, promote, promote_in};
+ghost use Rattle.copies.specs.Calls.{outcome, bad_copy, short_holder, short_promoter, demote, demote_in, drop, drop_in, promote, promote_in};
 
 use crate::Lent;
 use crate::checks::bad_copy;
 use crate::read::is_undelivered;
 use words::{Answer, EXCLUSIVE, PLACES, RECEIVED, SERIES, SHARE, STATIONS, VOID};
 
+// Whether a column of DEMOTE or DROP is short.
+#[tactic(auto, using(words::proofs::Laws::flag_or), unfolding(crate::specs::Calls::short_holder))]
+fn short_holder(columns: &Lent<'_>) -> bool
+    ensures { result ≡ short_holder (lent columns.now) }
+{
+    (columns.firsts.len() < SERIES) | (columns.kinds.len() < PLACES) | (columns.up.len() < STATIONS)
+}
+
 // DEMOTE where refusals 1 and 3 are not given.
+#[tactic(auto, using(crate::proofs::Guards::chain), unfolding(crate::specs::Calls::demote_in, crate::specs::Calls::short_holder, crate::specs::Calls::bad_copy, crate::specs::Steps::demoted, words::specs::Tests::refuse_if, words::specs::Tests::non))]
 fn demote_in(columns: &mut Lent<'_>, free: bool, series: u32, station: u32) -> Answer
-    requires { (series_count ≤ length columns.old.firsts.now) × (place_count ≤ length columns.old.kinds.now) × (station_count ≤ length columns.old.up.now) × (series < series_count) × (station < station_count) }
+    requires { (short_holder (lent columns.old) ≡ false) × (bad_copy series station ≡ false) }
     ensures same { SameColumns columns.old columns.new }
     ensures leaves { outcome result (lent columns.new)
         ≡ demote_in (lent columns.old) free series station }
@@ -36,15 +45,13 @@ fn demote_in(columns: &mut Lent<'_>, free: bool, series: u32, station: u32) -> A
 }
 
 // 10 DEMOTE: a free exclusive copy becomes share.
+#[tactic(auto, unfolding(crate::specs::Calls::demote, words::specs::Tests::refuse_if))]
 pub fn demote(columns: &mut Lent<'_>, free: bool, series: u32, station: u32) -> Answer
     ensures same { SameColumns columns.old columns.new }
     ensures leaves { outcome result (lent columns.new)
         ≡ demote (lent columns.old) free series station }
 {
-    if (columns.firsts.len() < SERIES)
-        | (columns.kinds.len() < PLACES)
-        | (columns.up.len() < STATIONS)
-    {
+    if short_holder(columns) {
         return Answer::Short;
     }
     if bad_copy(series, station) {
@@ -54,8 +61,10 @@ pub fn demote(columns: &mut Lent<'_>, free: bool, series: u32, station: u32) -> 
 }
 
 // Whether another station holds a share copy.
+#[tactic(auto, using(words::proofs::Laws::some_none, words::proofs::Laws::some_end))]
 fn other_share(columns: &Lent<'_>, series: u32, station: u32) -> bool
-    requires { (place_count ≤ length columns.now.kinds.now) × (series < series_count) }
+    requires kind { place_count ≤ length columns.now.kinds.now }
+    requires there { series < series_count }
     ensures { result ≡ other_share (series_at (lent columns.now) series) station }
 {
     let mut some = false;
@@ -67,8 +76,9 @@ fn other_share(columns: &Lent<'_>, series: u32, station: u32) -> bool
 }
 
 // DROP where refusals 1 and 3 are not given.
+#[tactic(auto, using(crate::proofs::Guards::chain), unfolding(crate::specs::Calls::drop_in, crate::specs::Calls::short_holder, crate::specs::Calls::bad_copy, crate::specs::Steps::dropped, words::specs::Tests::refuse_if, words::specs::Tests::non))]
 fn drop_in(columns: &mut Lent<'_>, free: bool, series: u32, station: u32) -> Answer
-    requires { (series_count ≤ length columns.old.firsts.now) × (place_count ≤ length columns.old.kinds.now) × (station_count ≤ length columns.old.up.now) × (series < series_count) × (station < station_count) }
+    requires { (short_holder (lent columns.old) ≡ false) × (bad_copy series station ≡ false) }
     ensures same { SameColumns columns.old columns.new }
     ensures leaves { outcome result (lent columns.new)
         ≡ drop_in (lent columns.old) free series station }
@@ -94,15 +104,13 @@ fn drop_in(columns: &mut Lent<'_>, free: bool, series: u32, station: u32) -> Ans
 }
 
 // 12 DROP: a free share copy, not the only one, becomes void.
+#[tactic(auto, unfolding(crate::specs::Calls::drop, words::specs::Tests::refuse_if))]
 pub fn drop(columns: &mut Lent<'_>, free: bool, series: u32, station: u32) -> Answer
     ensures same { SameColumns columns.old columns.new }
     ensures leaves { outcome result (lent columns.new)
         ≡ drop (lent columns.old) free series station }
 {
-    if (columns.firsts.len() < SERIES)
-        | (columns.kinds.len() < PLACES)
-        | (columns.up.len() < STATIONS)
-    {
+    if short_holder(columns) {
         return Answer::Short;
     }
     if bad_copy(series, station) {
@@ -112,8 +120,13 @@ pub fn drop(columns: &mut Lent<'_>, free: bool, series: u32, station: u32) -> An
 }
 
 // Whether a transfer of the series is undelivered.
+#[tactic(auto, using(words::proofs::Laws::some_none, words::proofs::Laws::some_next, words::proofs::Laws::some_end))]
 fn under_way(columns: &Lent<'_>, series: u32) -> bool
-    requires { (place_count ≤ length columns.now.sent.now) × (place_count ≤ length columns.now.relto.now) × (place_count ≤ length columns.now.relkind.now) × (received_count ≤ length columns.now.received.now) × (series < series_count) }
+    requires sent { place_count ≤ length columns.now.sent.now }
+    requires to { place_count ≤ length columns.now.relto.now }
+    requires kind { place_count ≤ length columns.now.relkind.now }
+    requires received { received_count ≤ length columns.now.received.now }
+    requires there { series < series_count }
     ensures { result ≡ under_way (series_at (lent columns.now) series) }
 {
     let mut some = false;
@@ -132,9 +145,24 @@ fn under_way(columns: &Lent<'_>, series: u32) -> bool
     some
 }
 
+// Whether a column of PROMOTE is short.
+#[tactic(auto, using(words::proofs::Laws::flag_or), unfolding(crate::specs::Calls::short_promoter))]
+fn short_promoter(columns: &Lent<'_>) -> bool
+    ensures { result ≡ short_promoter (lent columns.now) }
+{
+    (columns.firsts.len() < SERIES)
+        | (columns.kinds.len() < PLACES)
+        | (columns.sent.len() < PLACES)
+        | (columns.relto.len() < PLACES)
+        | (columns.relkind.len() < PLACES)
+        | (columns.received.len() < RECEIVED)
+        | (columns.up.len() < STATIONS)
+}
+
 // PROMOTE where refusals 1 and 3 are not given.
+#[tactic(auto, using(crate::proofs::Guards::chain), unfolding(crate::specs::Calls::promote_in, crate::specs::Calls::short_promoter, crate::specs::Calls::bad_copy, crate::specs::Steps::promoted, words::specs::Tests::refuse_if, words::specs::Tests::non))]
 fn promote_in(columns: &mut Lent<'_>, free: bool, series: u32, station: u32) -> Answer
-    requires { (series_count ≤ length columns.old.firsts.now) × (place_count ≤ length columns.old.kinds.now) × (place_count ≤ length columns.old.sent.now) × (place_count ≤ length columns.old.relto.now) × (place_count ≤ length columns.old.relkind.now) × (received_count ≤ length columns.old.received.now) × (station_count ≤ length columns.old.up.now) × (series < series_count) × (station < station_count) }
+    requires { (short_promoter (lent columns.old) ≡ false) × (bad_copy series station ≡ false) }
     ensures same { SameColumns columns.old columns.new }
     ensures leaves { outcome result (lent columns.new)
         ≡ promote_in (lent columns.old) free series station }
@@ -160,19 +188,13 @@ fn promote_in(columns: &mut Lent<'_>, free: bool, series: u32, station: u32) -> 
 }
 
 // 13 PROMOTE: a free share copy, the only share of the series, becomes exclusive.
+#[tactic(auto, unfolding(crate::specs::Calls::promote, words::specs::Tests::refuse_if))]
 pub fn promote(columns: &mut Lent<'_>, free: bool, series: u32, station: u32) -> Answer
     ensures same { SameColumns columns.old columns.new }
     ensures leaves { outcome result (lent columns.new)
         ≡ promote (lent columns.old) free series station }
 {
-    if (columns.firsts.len() < SERIES)
-        | (columns.kinds.len() < PLACES)
-        | (columns.sent.len() < PLACES)
-        | (columns.relto.len() < PLACES)
-        | (columns.relkind.len() < PLACES)
-        | (columns.received.len() < RECEIVED)
-        | (columns.up.len() < STATIONS)
-    {
+    if short_promoter(columns) {
         return Answer::Short;
     }
     if bad_copy(series, station) {

@@ -1,16 +1,34 @@
 // SEND, SHARE, GRANT and ACK: a token goes from station to station by a Release, a message and an acknowledgment.
-ghost use Rattle.std.specs.Prelude.{◌≡◌, ◌<◌, ◌≤◌, length};
-ghost use Rattle.words.specs.Numbers.{station_count, series_count, place_count, received_count};
+ghost use Rattle.std.specs.Prelude.{◌≡◌, ◌<◌, ◌≤◌, false, length};
+ghost use Rattle.words.specs.Numbers.{station_count, series_count, place_count};
 ghost use Rattle.copies.specs.Columns.{lent, SameColumns};
-ghost use Rattle.copies.specs.Calls.{outcome, send, send_in, send_share, share_in, grant, grant_in, ack, ack_in};
+ghost use Rattle.copies.specs.Tables.{series_at};
+ghost use Rattle.copies.specs.Steps.{matches};
+ghost use Rattle.copies.specs.Calls.{outcome, bad_transfer, bad_message, short_sender, short_receiver, short_source, send, send_in, send_share, share_in, grant, grant_in, ack, ack_in};
 
 use crate::Lent;
 use crate::checks::{bad_message, bad_transfer};
 use words::{Answer, EXCLUSIVE, GREATEST_SENT, PLACES, RECEIVED, SERIES, SHARE, STATIONS, VOID};
 
+// Whether a column of SEND or SHARE is short.
+#[tactic(auto, using(words::proofs::Laws::flag_or), unfolding(crate::specs::Calls::short_sender))]
+fn short_sender(columns: &Lent<'_>) -> bool
+    ensures { result ≡ short_sender (lent columns.now) }
+{
+    (columns.firsts.len() < SERIES)
+        | (columns.kinds.len() < PLACES)
+        | (columns.values.len() < PLACES)
+        | (columns.sent.len() < PLACES)
+        | (columns.relto.len() < PLACES)
+        | (columns.relkind.len() < PLACES)
+        | (columns.relvalue.len() < PLACES)
+        | (columns.up.len() < STATIONS)
+}
+
 // SEND where refusals 1 and 3 are not given.
+#[tactic(auto, using(crate::proofs::Guards::chain), unfolding(crate::specs::Calls::send_in, crate::specs::Calls::short_sender, crate::specs::Calls::bad_transfer, crate::specs::Steps::sent_off, crate::specs::Steps::released, crate::specs::Steps::is_spent, words::specs::Tests::refuse_if, words::specs::Tests::non))]
 fn send_in(columns: &mut Lent<'_>, free: bool, series: u32, from: u32, to: u32) -> Answer
-    requires { (series_count ≤ length columns.old.firsts.now) × (place_count ≤ length columns.old.kinds.now) × (place_count ≤ length columns.old.values.now) × (place_count ≤ length columns.old.sent.now) × (place_count ≤ length columns.old.relto.now) × (place_count ≤ length columns.old.relkind.now) × (place_count ≤ length columns.old.relvalue.now) × (station_count ≤ length columns.old.up.now) × (series < series_count) × (from < station_count) × (to < station_count) }
+    requires { (short_sender (lent columns.old) ≡ false) × (bad_transfer series from to ≡ false) }
     ensures same { SameColumns columns.old columns.new }
     ensures leaves { outcome result (lent columns.new)
         ≡ send_in (lent columns.old) free series from to }
@@ -44,20 +62,13 @@ fn send_in(columns: &mut Lent<'_>, free: bool, series: u32, from: u32, to: u32) 
 }
 
 // 9 SEND: a free exclusive copy becomes void, and a Release of kind 2 takes its value.
+#[tactic(auto, unfolding(crate::specs::Calls::send, words::specs::Tests::refuse_if))]
 pub fn send(columns: &mut Lent<'_>, free: bool, series: u32, from: u32, to: u32) -> Answer
     ensures same { SameColumns columns.old columns.new }
     ensures leaves { outcome result (lent columns.new)
         ≡ send (lent columns.old) free series from to }
 {
-    if (columns.firsts.len() < SERIES)
-        | (columns.kinds.len() < PLACES)
-        | (columns.values.len() < PLACES)
-        | (columns.sent.len() < PLACES)
-        | (columns.relto.len() < PLACES)
-        | (columns.relkind.len() < PLACES)
-        | (columns.relvalue.len() < PLACES)
-        | (columns.up.len() < STATIONS)
-    {
+    if short_sender(columns) {
         return Answer::Short;
     }
     if bad_transfer(series, from, to) {
@@ -67,8 +78,9 @@ pub fn send(columns: &mut Lent<'_>, free: bool, series: u32, from: u32, to: u32)
 }
 
 // SHARE where refusals 1 and 3 are not given.
+#[tactic(auto, using(crate::proofs::Guards::chain), unfolding(crate::specs::Calls::share_in, crate::specs::Calls::short_sender, crate::specs::Calls::bad_transfer, crate::specs::Steps::shared, crate::specs::Steps::released, crate::specs::Steps::is_spent, words::specs::Tests::refuse_if, words::specs::Tests::non))]
 fn share_in(columns: &mut Lent<'_>, series: u32, from: u32, to: u32) -> Answer
-    requires { (series_count ≤ length columns.old.firsts.now) × (place_count ≤ length columns.old.kinds.now) × (place_count ≤ length columns.old.values.now) × (place_count ≤ length columns.old.sent.now) × (place_count ≤ length columns.old.relto.now) × (place_count ≤ length columns.old.relkind.now) × (place_count ≤ length columns.old.relvalue.now) × (station_count ≤ length columns.old.up.now) × (series < series_count) × (from < station_count) × (to < station_count) }
+    requires { (short_sender (lent columns.old) ≡ false) × (bad_transfer series from to ≡ false) }
     ensures same { SameColumns columns.old columns.new }
     ensures leaves { outcome result (lent columns.new)
         ≡ share_in (lent columns.old) series from to }
@@ -98,20 +110,13 @@ fn share_in(columns: &mut Lent<'_>, series: u32, from: u32, to: u32) -> Answer
 }
 
 // 11 SHARE: from keeps its share copy, and a Release of kind 1 takes its value.
+#[tactic(auto, unfolding(crate::specs::Calls::send_share, words::specs::Tests::refuse_if))]
 pub fn share(columns: &mut Lent<'_>, series: u32, from: u32, to: u32) -> Answer
     ensures same { SameColumns columns.old columns.new }
     ensures leaves { outcome result (lent columns.new)
         ≡ send_share (lent columns.old) series from to }
 {
-    if (columns.firsts.len() < SERIES)
-        | (columns.kinds.len() < PLACES)
-        | (columns.values.len() < PLACES)
-        | (columns.sent.len() < PLACES)
-        | (columns.relto.len() < PLACES)
-        | (columns.relkind.len() < PLACES)
-        | (columns.relvalue.len() < PLACES)
-        | (columns.up.len() < STATIONS)
-    {
+    if short_sender(columns) {
         return Answer::Short;
     }
     if bad_transfer(series, from, to) {
@@ -120,9 +125,39 @@ pub fn share(columns: &mut Lent<'_>, series: u32, from: u32, to: u32) -> Answer
     share_in(columns, series, from, to)
 }
 
+// Whether a column of GRANT is short.
+#[tactic(auto, using(words::proofs::Laws::flag_or), unfolding(crate::specs::Calls::short_receiver))]
+fn short_receiver(columns: &Lent<'_>) -> bool
+    ensures { result ≡ short_receiver (lent columns.now) }
+{
+    (columns.firsts.len() < SERIES)
+        | (columns.kinds.len() < PLACES)
+        | (columns.values.len() < PLACES)
+        | (columns.sent.len() < PLACES)
+        | (columns.relto.len() < PLACES)
+        | (columns.relkind.len() < PLACES)
+        | (columns.relvalue.len() < PLACES)
+        | (columns.received.len() < RECEIVED)
+        | (columns.up.len() < STATIONS)
+}
+
+// Whether the number is that of the standing Release of `from`, addressed to `to`.
+#[tactic(auto, using(words::proofs::Laws::flags), unfolding(crate::specs::Steps::matches))]
+fn matches(columns: &Lent<'_>, series: u32, from: u32, to: u32, number: u32) -> bool
+    requires sent { place_count ≤ length columns.now.sent.now }
+    requires to { place_count ≤ length columns.now.relto.now }
+    requires kind { place_count ≤ length columns.now.relkind.now }
+    requires there { (series < series_count) × (from < station_count) }
+    ensures { result ≡ matches (series_at (lent columns.now) series) from to number }
+{
+    let at = series as usize * STATIONS + from as usize;
+    (columns.relkind[at] != 0) & (columns.relto[at] == to) & (columns.sent[at] == number)
+}
+
 // GRANT where refusals 1 and 3 are not given.
+#[tactic(auto, using(crate::proofs::Guards::chain), unfolding(crate::specs::Calls::grant_in, crate::specs::Calls::short_receiver, crate::specs::Calls::bad_message, crate::specs::Calls::bad_transfer, crate::specs::Steps::no_grant, crate::specs::Steps::is_repeat, crate::specs::Steps::arrived, words::specs::Tests::refuse_if, words::specs::Tests::non))]
 fn grant_in(columns: &mut Lent<'_>, series: u32, from: u32, to: u32, number: u32) -> Answer
-    requires { (series_count ≤ length columns.old.firsts.now) × (place_count ≤ length columns.old.kinds.now) × (place_count ≤ length columns.old.values.now) × (place_count ≤ length columns.old.sent.now) × (place_count ≤ length columns.old.relto.now) × (place_count ≤ length columns.old.relkind.now) × (place_count ≤ length columns.old.relvalue.now) × (received_count ≤ length columns.old.received.now) × (station_count ≤ length columns.old.up.now) × (series < series_count) × (from < station_count) × (to < station_count) }
+    requires { (short_receiver (lent columns.old) ≡ false) × (bad_message series from to number ≡ false) }
     ensures same { SameColumns columns.old columns.new }
     ensures leaves { outcome result (lent columns.new)
         ≡ grant_in (lent columns.old) series from to number }
@@ -138,13 +173,7 @@ fn grant_in(columns: &mut Lent<'_>, series: u32, from: u32, to: u32, number: u32
     if number <= columns.received[at * STATIONS + from as usize] {
         return Answer::Done(0);
     }
-    if columns.relkind[source] == 0 {
-        return Answer::NoMessage;
-    }
-    if columns.relto[source] != to {
-        return Answer::NoMessage;
-    }
-    if columns.sent[source] != number {
+    if !matches(columns, series, from, to, number) {
         return Answer::NoMessage;
     }
     columns.kinds[at] = columns.relkind[source];
@@ -154,21 +183,13 @@ fn grant_in(columns: &mut Lent<'_>, series: u32, from: u32, to: u32, number: u32
 }
 
 // 14 GRANT: the transfer arrives, once; a repeat is known by its number alone.
+#[tactic(auto, unfolding(crate::specs::Calls::grant, words::specs::Tests::refuse_if))]
 pub fn grant(columns: &mut Lent<'_>, series: u32, from: u32, to: u32, number: u32) -> Answer
     ensures same { SameColumns columns.old columns.new }
     ensures leaves { outcome result (lent columns.new)
         ≡ grant (lent columns.old) series from to number }
 {
-    if (columns.firsts.len() < SERIES)
-        | (columns.kinds.len() < PLACES)
-        | (columns.values.len() < PLACES)
-        | (columns.sent.len() < PLACES)
-        | (columns.relto.len() < PLACES)
-        | (columns.relkind.len() < PLACES)
-        | (columns.relvalue.len() < PLACES)
-        | (columns.received.len() < RECEIVED)
-        | (columns.up.len() < STATIONS)
-    {
+    if short_receiver(columns) {
         return Answer::Short;
     }
     if bad_message(series, from, to, number) {
@@ -177,9 +198,24 @@ pub fn grant(columns: &mut Lent<'_>, series: u32, from: u32, to: u32, number: u3
     grant_in(columns, series, from, to, number)
 }
 
+// Whether a column of ACK is short.
+#[tactic(auto, using(words::proofs::Laws::flag_or), unfolding(crate::specs::Calls::short_source))]
+fn short_source(columns: &Lent<'_>) -> bool
+    ensures { result ≡ short_source (lent columns.now) }
+{
+    (columns.firsts.len() < SERIES)
+        | (columns.sent.len() < PLACES)
+        | (columns.relto.len() < PLACES)
+        | (columns.relkind.len() < PLACES)
+        | (columns.relvalue.len() < PLACES)
+        | (columns.received.len() < RECEIVED)
+        | (columns.up.len() < STATIONS)
+}
+
 // ACK where refusals 1 and 3 are not given.
+#[tactic(auto, using(crate::proofs::Guards::chain), unfolding(crate::specs::Calls::ack_in, crate::specs::Calls::short_source, crate::specs::Calls::bad_message, crate::specs::Calls::bad_transfer, crate::specs::Steps::no_ack, crate::specs::Steps::matches, crate::specs::Steps::deleted, words::specs::Tests::refuse_if, words::specs::Tests::non))]
 fn ack_in(columns: &mut Lent<'_>, series: u32, from: u32, to: u32, number: u32) -> Answer
-    requires { (series_count ≤ length columns.old.firsts.now) × (place_count ≤ length columns.old.sent.now) × (place_count ≤ length columns.old.relto.now) × (place_count ≤ length columns.old.relkind.now) × (place_count ≤ length columns.old.relvalue.now) × (received_count ≤ length columns.old.received.now) × (station_count ≤ length columns.old.up.now) × (series < series_count) × (from < station_count) × (to < station_count) }
+    requires { (short_source (lent columns.old) ≡ false) × (bad_message series from to number ≡ false) }
     ensures same { SameColumns columns.old columns.new }
     ensures leaves { outcome result (lent columns.new)
         ≡ ack_in (lent columns.old) series from to number }
@@ -194,18 +230,11 @@ fn ack_in(columns: &mut Lent<'_>, series: u32, from: u32, to: u32, number: u32) 
     if columns.sent[at] < number {
         return Answer::NoMessage;
     }
-    if columns.relkind[at] == 0 {
+    if !matches(columns, series, from, to, number) {
         return Answer::Done(0);
     }
-    if columns.relto[at] != to {
-        return Answer::Done(0);
-    }
-    if columns.sent[at] != number {
-        return Answer::Done(0);
-    }
-    if columns.received[(series as usize * STATIONS + to as usize) * STATIONS + from as usize]
-        < number
-    {
+    let receiver = series as usize * STATIONS + to as usize;
+    if columns.received[receiver * STATIONS + from as usize] < number {
         return Answer::NoMessage;
     }
     columns.relto[at] = 0;
@@ -215,19 +244,13 @@ fn ack_in(columns: &mut Lent<'_>, series: u32, from: u32, to: u32, number: u32) 
 }
 
 // 15 ACK: of a delivered transfer its standing Release is deleted; anything late is ignored (X7).
+#[tactic(auto, unfolding(crate::specs::Calls::ack, words::specs::Tests::refuse_if))]
 pub fn ack(columns: &mut Lent<'_>, series: u32, from: u32, to: u32, number: u32) -> Answer
     ensures same { SameColumns columns.old columns.new }
     ensures leaves { outcome result (lent columns.new)
         ≡ ack (lent columns.old) series from to number }
 {
-    if (columns.firsts.len() < SERIES)
-        | (columns.sent.len() < PLACES)
-        | (columns.relto.len() < PLACES)
-        | (columns.relkind.len() < PLACES)
-        | (columns.relvalue.len() < PLACES)
-        | (columns.received.len() < RECEIVED)
-        | (columns.up.len() < STATIONS)
-    {
+    if short_source(columns) {
         return Answer::Short;
     }
     if bad_message(series, from, to, number) {
