@@ -6,8 +6,10 @@ use mathlib.Core.List.{List}
 use lib.ListN.{length}
 use borrow.Author.Tests.{lt-ltb, le-ltb}
 use Rattle.words.specs.declared.Answer.TheVariants.{Short, NotWhole}
-use Rattle.words.specs.declared.Found.{Found}
-use Rattle.words.specs.declared.Found.TheVariants.{Short as FoundShort, Broken, Whole}
+use Rattle.std.specs.Prelude.{Result, Ok, Err}
+use Rattle.words.specs.declared.Rule.{Rule}
+use Rattle.words.specs.declared.Flaw.{Flaw}
+use Rattle.words.specs.declared.Flaw.TheVariants.{Short as FlawShort, Broken}
 use Rattle.words.specs.Numbers.{out_count}
 use Rattle.words.specs.Tests.{non, ◌or◌}
 use Rattle.words.proofs.Laws.{or_true}
@@ -37,7 +39,7 @@ module _ (t : Copies) (bs : List Job) (out : List ℕ) (e : Event) where
   way_room l = rw (lt-ltb _ _ l, or_true (short_tables lent))
 
   -- a table is short
-  pub way_short : (found : Found) → found ≡ check lent → found ≡ FoundShort → left (stepped Short bs) t out ≡ step_of lent out e
+  pub way_short : (found : Result (Unit {0}) Flaw) → found ≡ check lent → found ≡ Err FlawShort → left (stepped Short bs) t out ≡ step_of lent out e
   unfolding step_of effect judged SHORT shown ◌or◌
   way_short found p h = rw (check_short lent (sym p ∙ h))
 
@@ -47,7 +49,7 @@ module _ (t : Copies) (bs : List Job) (out : List ℕ) (e : Event) where
   long_enough l h = rw (h, le-ltb _ _ l)
 
   -- NOT WHOLE
-  pub way_broken : (rule : ℕ) (found : Found) → out_count ≤ length out → found ≡ check lent → found ≡ Broken rule
+  pub way_broken : (rule : Rule) (found : Result (Unit {0}) Flaw) → out_count ≤ length out → found ≡ check lent → found ≡ Err (Broken rule)
       → left (stepped NotWhole bs) t out ≡ step_of lent out e
   unfolding step_of effect judged NOT_WHOLE non shown
   way_broken rule found l p h =
@@ -55,7 +57,7 @@ module _ (t : Copies) (bs : List Job) (out : List ℕ) (e : Event) where
       rw (long_enough l broken.0, broken.1)
 
   -- whole tables
-  pub way_whole : (r : Stepped) (t' : Copies) (out' : List ℕ) (found : Found) → out_count ≤ length out → found ≡ check lent → found ≡ Whole
+  pub way_whole : (r : Stepped) (t' : Copies) (out' : List ℕ) (found : Result (Unit {0}) Flaw) → out_count ≤ length out → found ≡ check lent → found ≡ Ok tt
       → left r t' out' ≡ unchecked_step lent out e
       → left r t' out' ≡ step_of lent out e
   way_whole r t' out' found l p h made =
