@@ -21,7 +21,7 @@ pub returns-in-Some : goal.returns-in-Some
 unfolding first_broken_job
 returns-in-Some c ns rt rk rv gs =
     let below = c.loop-j.invariant.1 in
-    let rule = c.job_rule.ensures ns rt rk rv gs _ _ refl c.alone.ensures in
+    let rule = sym c.in-Some.is ∙ c.job_rule.ensures ns rt rk rv gs _ _ refl c.alone.ensures in
     search (first_stop, below, rule)
 
 pub loop-j-preserved : goal.loop-j-preserved
