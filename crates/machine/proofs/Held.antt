@@ -1,6 +1,6 @@
 -- The holders of a series: a law for each way out of `holders_in` and of `holders`. Assumes nothing.
 use Prim.Native.Nat.{ℕ, ◌≤◌}
-use mathlib.Core.Path.{◌≡◌, sym, ◌∙◌}
+use mathlib.Core.Path.{◌≡◌, sym, ap, ◌∙◌}
 use mathlib.Core.Bool.{Bool, true, false, not}
 use mathlib.Core.List.{List, []}
 use lib.Dec.{eqb, leb}
@@ -72,14 +72,15 @@ module _ (t : Copies) (bs : List Job) (found : Result (Unit {0}) Flaw) (e : foun
 
   module _ (s : ℕ) (h : Holders) where
     -- refusal 1
-    pub holders_short : found ≡ Err Short → h ≡ no_holders SHORT → h ≡ holders_of (plant t bs) s
+    pub holders_short : (flaw : Flaw) → found ≡ Err flaw → flaw ≡ Short → h ≡ no_holders SHORT → h ≡ holders_of (plant t bs) s
     unfolding holders_of
-    holders_short w q = rw (check_short (plant t bs) (sym e ∙ w)) q
+    holders_short flaw w f q = rw (check_short (plant t bs) (sym e ∙ w ∙ ap Err f)) q
 
     -- refusal 2
-    pub holders_broken : (rule : Rule) → found ≡ Err (Broken rule) → h ≡ no_holders NotWhole → h ≡ holders_of (plant t bs) s
+    pub holders_broken : (flaw : Flaw) (rule : Rule) → found ≡ Err flaw → flaw ≡ Broken rule → h ≡ no_holders NotWhole → h ≡ holders_of (plant t bs) s
     unfolding holders_of non
-    holders_broken rule w q = let broken = check_broken (plant t bs) rule (sym e ∙ w) in rw (broken.0, broken.1) q
+    holders_broken flaw rule w f q =
+        let broken = check_broken (plant t bs) rule (sym e ∙ w ∙ ap Err f) in rw (broken.0, broken.1) q
 
     -- neither
     pub holders_whole : found ≡ Ok tt → h ≡ holders_there (series_in t.firsts [] t.kinds [] [] [] [] [] [] s) s → h ≡ holders_of (plant t bs) s

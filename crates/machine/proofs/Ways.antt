@@ -1,6 +1,6 @@
 -- The ways out of the step: a law for each. Assumes nothing.
 use Prim.Native.Nat.{ℕ, ◌≤◌, ◌<◌}
-use mathlib.Core.Path.{◌≡◌, sym, ◌∙◌}
+use mathlib.Core.Path.{◌≡◌, sym, ap, ◌∙◌}
 use mathlib.Core.Bool.{false}
 use mathlib.Core.List.{List}
 use lib.ListN.{length}
@@ -39,9 +39,9 @@ module _ (t : Copies) (bs : List Job) (out : List ℕ) (e : Event) where
   way_room l = rw (lt-ltb _ _ l, or_true (short_tables lent))
 
   -- a table is short
-  pub way_short : (found : Result (Unit {0}) Flaw) → found ≡ check lent → found ≡ Err FlawShort → left (stepped Short bs) t out ≡ step_of lent out e
+  pub way_short : (found : Result (Unit {0}) Flaw) (flaw : Flaw) → found ≡ check lent → found ≡ Err flaw → flaw ≡ FlawShort → left (stepped Short bs) t out ≡ step_of lent out e
   unfolding step_of effect judged SHORT shown ◌or◌
-  way_short found p h = rw (check_short lent (sym p ∙ h))
+  way_short found flaw p h f = rw (check_short lent (sym p ∙ h ∙ ap Err f))
 
   -- refusal 1 is not given
   long_enough : out_count ≤ length out → short_tables lent ≡ false → SHORT out lent e ≡ false
@@ -49,11 +49,11 @@ module _ (t : Copies) (bs : List Job) (out : List ℕ) (e : Event) where
   long_enough l h = rw (h, le-ltb _ _ l)
 
   -- NOT WHOLE
-  pub way_broken : (rule : Rule) (found : Result (Unit {0}) Flaw) → out_count ≤ length out → found ≡ check lent → found ≡ Err (Broken rule)
+  pub way_broken : (rule : Rule) (found : Result (Unit {0}) Flaw) (flaw : Flaw) → out_count ≤ length out → found ≡ check lent → found ≡ Err flaw → flaw ≡ Broken rule
       → left (stepped NotWhole bs) t out ≡ step_of lent out e
   unfolding step_of effect judged NOT_WHOLE non shown
-  way_broken rule found l p h =
-      let broken = check_broken lent rule (sym p ∙ h) in
+  way_broken rule found flaw l p h f =
+      let broken = check_broken lent rule (sym p ∙ h ∙ ap Err f) in
       rw (long_enough l broken.0, broken.1)
 
   -- whole tables

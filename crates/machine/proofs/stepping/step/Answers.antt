@@ -6,10 +6,10 @@ pub returns-then-out-lt-OUTPUT : goal.returns-then-out-lt-OUTPUT
 returns-then-out-lt-OUTPUT c = search way_room
 
 pub returns-in-Err-Short : goal.returns-in-Err-Short
-returns-in-Err-Short c = way_short _ _ _ _ _ c.check.ensures c.in-Err-Short.is
+returns-in-Err-Short c = way_short _ _ _ _ _ _ c.check.ensures c.in-Err-Short.is c.in-Err-Short.field-0-is
 
 pub returns-in-Err-Broken : goal.returns-in-Err-Broken
-returns-in-Err-Broken c = way_broken _ _ _ _ _ _ c.if-out-lt-OUTPUT.false c.check.ensures c.in-Err-Broken.is
+returns-in-Err-Broken c = way_broken _ _ _ _ _ _ _ c.if-out-lt-OUTPUT.false c.check.ensures c.in-Err-Broken.is c.in-Err-Broken.field-0-is
 
 pub returns-in-Ok : goal.returns-in-Ok
 returns-in-Ok c =
