@@ -10,20 +10,8 @@ use borrow.Author.Tests.{le-ltb}
 use Rattle.words.specs.Numbers.{station_count, series_count, place_count, received_count}
 use Rattle.words.specs.Tests.{◌or◌}
 use Rattle.copies.specs.Tables.{Copies, short_copies}
+pub use Rattle.copies.specs.Tally.{Long}
 use Rattle.words.proofs.Guards.{all_long}
-
--- Each column has its stated size.
-pub record Long (t : Copies) : Type 0 where
-  pub firsts : series_count ≤ length t.firsts
-  pub lasts : series_count ≤ length t.lasts
-  pub kinds : place_count ≤ length t.kinds
-  pub values : place_count ≤ length t.values
-  pub sent : place_count ≤ length t.sent
-  pub rel_to : place_count ≤ length t.rel_to
-  pub rel_kind : place_count ≤ length t.rel_kind
-  pub rel_value : place_count ≤ length t.rel_value
-  pub received : received_count ≤ length t.received
-  pub up : station_count ≤ length t.up
 
 -- no column before is short, nor is this one
 none_short : (short : Bool) (l : List ℕ) (size : ℕ) → short ≡ false → size ≤ length l → (short or ltb (length l) size) ≡ false

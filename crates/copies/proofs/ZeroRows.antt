@@ -10,7 +10,7 @@ use lib.ListN.{get_or}
 use Rattle.words.specs.Numbers.{station_count}
 use Rattle.words.specs.Tests.{◌and◌, all_below}
 use Rattle.words.proofs.Laws.{all_and, all_rows}
-use Rattle.copies.specs.Tables.{series_in, received_place}
+use Rattle.copies.specs.Tables.{Copies, series_at, received_place}
 use Rattle.copies.specs.Whole.{W5_kept, W5_received, W5_closed}
 
 -- so many entries of a column are 0, from one on
@@ -21,22 +21,22 @@ zeros l from count = all_below count (λ i. eqb (get_or l (from + i) 0) 0)
 abbrev row : List ℕ → ℕ → Bool
 row l s = zeros l (s * station_count) station_count
 
-module _ (ks vs ns rt rk rv gs : List ℕ) (s : ℕ) where
+module _ (t : Copies) (s : ℕ) where
   -- its received numbers, as one row of 64
-  received_rows : zeros gs (s * station_count * station_count) (station_count * station_count) ≡ all_below station_count (W5_received (series_in [] [] ks vs ns rt rk rv gs s))
+  received_rows : zeros t.received (s * station_count * station_count) (station_count * station_count) ≡ all_below station_count (W5_received (series_at t s))
   unfolding W5_received
   received_rows =
       let place_is : (n m : ℕ) → s * 8 * 8 + (n * 8 + m) ≡ received_place s n m = λ n m. omega arith in
-      all_rows station_count station_count (λ i. eqb (get_or gs (s * station_count * station_count + i) 0) 0)
-      ∙ (λ x. all_below station_count (λ n. all_below station_count (λ m. eqb (get_or gs (place_is n m x) 0) 0)))
+      all_rows station_count station_count (λ i. eqb (get_or t.received (s * station_count * station_count + i) 0) 0)
+      ∙ (λ x. all_below station_count (λ n. all_below station_count (λ m. eqb (get_or t.received (place_is n m x) 0) 0)))
 
   -- what its stations keep, column by column
-  kept_rows : all_below station_count (λ n. W5_kept ((series_in [] [] ks vs ns rt rk rv gs s).kept n)) ≡ (row ks s and row vs s and row ns s and row rt s and row rk s and row rv s)
+  kept_rows : all_below station_count (λ n. W5_kept ((series_at t s).kept n)) ≡ (row t.kinds s and row t.values s and row t.sent s and row t.rel_to s and row t.rel_kind s and row t.rel_value s)
   unfolding W5_kept
   kept_rows = simp all_and
 
-  -- the rows, one after the other, are W5's test of a series whose last number is 0
-  pub closed_rows : (q a b c d e f g : Bool) → a ≡ row ks s → b ≡ row vs s → c ≡ row ns s → d ≡ row rt s → e ≡ row rk s → f ≡ row rv s → g ≡ zeros gs (s * station_count * station_count) (station_count * station_count) → q ≡ (a && b && c && d && e && f && g) → q ≡ W5_closed (series_in [] [] ks vs ns rt rk rv gs s)
+  -- its last number and the rows, one after the other, are W5's test of a series that isn't open
+  pub closed_rows : (q a b c d e f g : Bool) → a ≡ row t.kinds s → b ≡ row t.values s → c ≡ row t.sent s → d ≡ row t.rel_to s → e ≡ row t.rel_kind s → f ≡ row t.rel_value s → g ≡ zeros t.received (s * station_count * station_count) (station_count * station_count) → q ≡ (eqb (get_or t.lasts s 0) 0 && (a && b && c && d && e && f && g)) → q ≡ W5_closed (series_at t s)
   unfolding W5_closed ◌and◌
   closed_rows q a b c d e f g pa pb pc pd pe pf pg is =
-      rw (all_and station_count (λ n. W5_kept ((series_in [] [] ks vs ns rt rk rv gs s).kept n)) (W5_received (series_in [] [] ks vs ns rt rk rv gs s)), kept_rows, ← received_rows, ← pa, ← pb, ← pc, ← pd, ← pe, ← pf, ← pg) is
+      rw (all_and station_count (λ n. W5_kept ((series_at t s).kept n)) (W5_received (series_at t s)), kept_rows, ← received_rows, ← pa, ← pb, ← pc, ← pd, ← pe, ← pf, ← pg) is

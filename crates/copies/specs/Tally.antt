@@ -1,28 +1,32 @@
 -- How the walk's functions count the tokens of W2 in one pass, and what else they say to each other.
 -- A reader of W2 needs none of it: `tally_same` of proofs/Tokens.antt shows that the count is W2's test, of values above 0 as W1 asks.
 -- Assumes nothing.
-use Rattle.std.specs.Prelude.{ℕ, zero, suc, ◌+◌, ◌≤◌, Bool, true, cond, ◌&&◌, ◌||◌, List, length, eqb, leb, ltb}
+use Rattle.std.specs.Prelude.{ℕ, zero, suc, ◌+◌, ◌≤◌, Bool, true, cond, ◌&&◌, ◌||◌, length, eqb, leb, ltb, Option}
+use Rattle.words.specs.declared.Rule.{Rule}
 use mir.Val.{bool_byte}
 use Rattle.words.specs.Numbers.{station_count, series_count, place_count, received_count, void, share, exclusive}
 use Rattle.words.specs.Tests.{◌and◌, first_below}
 use Rattle.copies.specs.declared.Kept.{Kept}
 use Rattle.copies.specs.declared.walk.Tally.{Tally}
 use Rattle.copies.specs.FirstBroken.{broken_series}
-use Rattle.copies.specs.Tables.{Series, series_in, has_release, kind, value, rel_value, received}
+use Rattle.copies.specs.Tables.{Copies, Series, series_at, has_release, kind, value, rel_value, received}
 
--- the columns with an entry for each place, and the received numbers, have at least their stated sizes
-pub record Sized (ks vs ns rt rk rv gs : List ℕ) : Type 0 where
-  pub kinds : place_count ≤ length ks
-  pub values : place_count ≤ length vs
-  pub sent : place_count ≤ length ns
-  pub rel_to : place_count ≤ length rt
-  pub rel_kind : place_count ≤ length rk
-  pub rel_value : place_count ≤ length rv
-  pub received : received_count ≤ length gs
+-- each column has at least its stated size
+pub record Long (t : Copies) : Type 0 where
+  pub firsts : series_count ≤ length t.firsts
+  pub lasts : series_count ≤ length t.lasts
+  pub kinds : place_count ≤ length t.kinds
+  pub values : place_count ≤ length t.values
+  pub sent : place_count ≤ length t.sent
+  pub rel_to : place_count ≤ length t.rel_to
+  pub rel_kind : place_count ≤ length t.rel_kind
+  pub rel_value : place_count ≤ length t.rel_value
+  pub received : received_count ≤ length t.received
+  pub up : station_count ≤ length t.up
 
 -- the first broken rule of the series, the stations' marks apart
-unfoldable pub broken_in : (firsts lasts kinds values sent rel_to rel_kind rel_value received : List ℕ) → ℕ
-broken_in fs ls ks vs ns rt rk rv gs = first_below series_count (λ s. broken_series (series_in fs ls ks vs ns rt rk rv gs s))
+unfoldable pub broken_in : Copies → Option Rule
+broken_in t = first_below series_count (λ s. broken_series (series_at t s))
 
 -- nothing counted yet
 abbrev pub untold : Tally

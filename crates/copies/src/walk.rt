@@ -1,19 +1,19 @@
 // The walk over series and stations that finds the first broken rule of the layer's tables: W1, W2, W3 or W5.
 // Only the walk itself is left early, by its label: a test that runs its loop to the end is faster.
-// A contract names the columns that its function reads; `[]` stands in the place of the others.
-ghost use Rattle.std.specs.Prelude.{◌≡◌, [], ◌+◌, ◌*◌, ◌<◌, ◌≤◌, length, get_or, eqb};
-ghost use Rattle.words.specs.Numbers.{station_count, series_count, place_count, received_count};
+ghost use Rattle.std.specs.Prelude.{◌≡◌, ◌+◌, ◌*◌, ◌<◌, ◌≤◌, length, get_or, eqb};
+ghost use Rattle.words.specs.Numbers.{station_count, series_count, received_count};
 ghost use Rattle.words.specs.Tests.{◌⇒◌, all_below, broken, ◌or_else◌};
-ghost use Rattle.copies.specs.Tables.{tables, series_in, kept_in, place, received_place};
+ghost use Rattle.copies.specs.Columns.{seen};
+ghost use Rattle.copies.specs.Tables.{series_at, kept_at, received_place, short_copies};
 ghost use Rattle.copies.specs.Whole.{in_bounds, W1_bounds, W1_release, W1_marks, W3_at_most, W3_station, W5_release, W5_closed};
 ghost use Rattle.copies.specs.FirstBroken.{broken_kept, check_copies};
-ghost use Rattle.copies.specs.Tally.{Sized, broken_in, counted, transfer_kind, tally, tally_fine};
+ghost use Rattle.copies.specs.Tally.{Long, broken_in, counted, transfer_kind, tally, tally_fine};
 
-use crate::Kept;
 use crate::read::is_undelivered;
+use crate::{Kept, Seen};
 use words::{
-    EXCLUSIVE, Found, GREATEST_SENT, GREATEST_SERIAL, PLACES, RECEIVED, SERIES, SHARE, STATIONS,
-    Serial, UNBROKEN, VOID, W1, W2, W3, W5,
+    EXCLUSIVE, Flaw, GREATEST_SENT, GREATEST_SERIAL, PLACES, RECEIVED, Rule, SERIES, SHARE,
+    STATIONS, Serial, VOID,
 };
 
 // Whether so many entries of a column are 0, from one on.
@@ -55,29 +55,29 @@ fn bounds_fine(first: Serial, last: Serial) -> bool
 }
 
 // W1 and W5 of station n's Release: first where it doesn't stand, as most don't.
-fn release_rule(first: Serial, last: Serial, n: usize, kept: Kept) -> u32
-    ensures { result ≡ broken 1 (W1_release first last n kept) or_else broken 5 (W5_release kept) }
+fn release_rule(first: Serial, last: Serial, n: usize, kept: Kept) -> Option<Rule>
+    ensures { result ≡ broken Rule.W1 (W1_release first last n kept) or_else broken Rule.W5 (W5_release kept) }
 {
     let to = kept.relto as usize;
     if kept.relkind == 0 {
         let zero = (kept.relto == 0) & (kept.relvalue == 0);
         if zero {
-            UNBROKEN
+            None
         } else if to < STATIONS {
-            W5
+            Some(Rule::W5)
         } else {
-            W1
+            Some(Rule::W1)
         }
     } else {
         let fine = (kept.relkind <= EXCLUSIVE)
             & (to < STATIONS)
             & ((to != n) & (1 <= kept.sent) & in_bounds(first, last, kept.relvalue));
-        if fine { UNBROKEN } else { W1 }
+        if fine { None } else { Some(Rule::W1) }
     }
 }
 
 // W1 and W5 of what station n keeps of an open series.
-fn kept_rule(first: Serial, last: Serial, n: usize, kept: Kept) -> u32
+fn kept_rule(first: Serial, last: Serial, n: usize, kept: Kept) -> Option<Rule>
     ensures { result ≡ broken_kept first last n kept }
 {
     let fine = (kept.kind <= EXCLUSIVE)
@@ -86,18 +86,19 @@ fn kept_rule(first: Serial, last: Serial, n: usize, kept: Kept) -> u32
     if fine {
         release_rule(first, last, n, kept)
     } else {
-        W1
+        Some(Rule::W1)
     }
 }
 
 // W3: whether what station n has received is at most what each station has sent.
-fn at_most(sent: &[u32], received: &[u32], s: usize, n: usize) -> bool
-    requires { (place_count ≤ length sent.now) × (received_count ≤ length received.now) × (s < series_count) × (n < station_count) }
-    ensures { result ≡ W3_at_most (series_in [] [] [] [] sent.now [] [] [] received.now s) n }
+fn at_most(columns: &Seen<'_>, s: usize, n: usize) -> bool
+    requires { Long (seen columns.now) × (s < series_count) × (n < station_count) }
+    ensures { result ≡ W3_at_most (series_at (seen columns.now) s) n }
 {
     let mut all = true;
     for m in 0..STATIONS {
-        all = all & (received[(s * STATIONS + n) * STATIONS + m] <= sent[s * STATIONS + m]);
+        let got = columns.received[(s * STATIONS + n) * STATIONS + m];
+        all = all & (got <= columns.sent[s * STATIONS + m]);
     }
     all
 }
@@ -115,48 +116,32 @@ fn only_receiver(received: &[u32], s: usize, n: usize, to: u32, number: u32) -> 
 }
 
 // W3 of what station n has received and, where its Release stands, of who has received that number.
-fn received_fine(
-    sent: &[u32],
-    relto: &[u32],
-    relkind: &[u32],
-    received: &[u32],
-    s: usize,
-    n: usize,
-) -> bool
-    requires { (place_count ≤ length sent.now) × (place_count ≤ length relto.now) × (place_count ≤ length relkind.now) × (received_count ≤ length received.now) × (s < series_count) × (n < station_count) }
-    ensures { result ≡ W3_station (series_in [] [] [] [] sent.now relto.now relkind.now [] received.now s) n }
+fn received_fine(columns: &Seen<'_>, s: usize, n: usize) -> bool
+    requires { Long (seen columns.now) × (s < series_count) × (n < station_count) }
+    ensures { result ≡ W3_station (series_at (seen columns.now) s) n }
 {
     let at = s * STATIONS + n;
-    let fine = at_most(sent, received, s, n) & (received[at * STATIONS + n] == 0);
-    if relkind[at] == 0 {
+    let fine = at_most(columns, s, n) & (columns.received[at * STATIONS + n] == 0);
+    if columns.relkind[at] == 0 {
         fine
     } else {
-        fine & only_receiver(received, s, n, relto[at], sent[at])
+        fine & only_receiver(columns.received, s, n, columns.relto[at], columns.sent[at])
     }
 }
 
 // What station n keeps of series s.
-fn kept_at(
-    kinds: &[u32],
-    values: &[Serial],
-    sent: &[u32],
-    relto: &[u32],
-    relkind: &[u32],
-    relvalue: &[Serial],
-    s: usize,
-    n: usize,
-) -> Kept
-    requires { (place_count ≤ length kinds.now) × (place_count ≤ length values.now) × (place_count ≤ length sent.now) × (place_count ≤ length relto.now) × (place_count ≤ length relkind.now) × (place_count ≤ length relvalue.now) × (s < series_count) × (n < station_count) }
-    ensures { result ≡ kept_in kinds.now values.now sent.now relto.now relkind.now relvalue.now (place s n) }
+fn kept_at(columns: &Seen<'_>, s: usize, n: usize) -> Kept
+    requires { Long (seen columns.now) × (s < series_count) × (n < station_count) }
+    ensures { result ≡ kept_at (seen columns.now) s n }
 {
     let at = s * STATIONS + n;
     Kept {
-        kind: kinds[at],
-        value: values[at],
-        sent: sent[at],
-        relto: relto[at],
-        relkind: relkind[at],
-        relvalue: relvalue[at],
+        kind: columns.kinds[at],
+        value: columns.values[at],
+        sent: columns.sent[at],
+        relto: columns.relto[at],
+        relkind: columns.relkind[at],
+        relvalue: columns.relvalue[at],
     }
 }
 
@@ -209,18 +194,9 @@ fn transfer_kind(received: &[u32], s: usize, n: usize, kept: Kept) -> u32
 }
 
 // W2 of an open series' tokens, counted in one pass: at most a copy and a transfer each station.
-fn tokens_fine(
-    kinds: &[u32],
-    values: &[Serial],
-    sent: &[u32],
-    relto: &[u32],
-    relkind: &[u32],
-    relvalue: &[Serial],
-    received: &[u32],
-    s: usize,
-) -> bool
-    requires { Sized kinds.now values.now sent.now relto.now relkind.now relvalue.now received.now × (s < series_count) }
-    ensures { result ≡ tally_fine (tally (series_in [] [] kinds.now values.now sent.now relto.now relkind.now relvalue.now received.now s) station_count) }
+fn tokens_fine(columns: &Seen<'_>, s: usize) -> bool
+    requires { Long (seen columns.now) × (s < series_count) }
+    ensures { result ≡ tally_fine (tally (series_at (seen columns.now) s) station_count) }
 {
     let mut t = Tally {
         exclusives: 0,
@@ -229,8 +205,8 @@ fn tokens_fine(
         same: true,
     };
     for n in 0..STATIONS {
-        let kept = kept_at(kinds, values, sent, relto, relkind, relvalue, s, n);
-        let transfer = transfer_kind(received, s, n, kept);
+        let kept = kept_at(columns, s, n);
+        let transfer = transfer_kind(columns.received, s, n, kept);
         t = t
             .count(kept.kind, kept.value)
             .count(transfer, kept.relvalue);
@@ -238,121 +214,89 @@ fn tokens_fine(
     t.fine()
 }
 
-// W5 of a series that isn't open, but for its last number: its row of each column is zero.
-fn closed_fine(
-    kinds: &[u32],
-    values: &[Serial],
-    sent: &[u32],
-    relto: &[u32],
-    relkind: &[u32],
-    relvalue: &[Serial],
-    received: &[u32],
-    s: usize,
-) -> bool
-    requires { Sized kinds.now values.now sent.now relto.now relkind.now relvalue.now received.now × (s < series_count) }
-    ensures { result ≡ W5_closed (series_in [] [] kinds.now values.now sent.now relto.now relkind.now relvalue.now received.now s) }
+// W5 of a series that isn't open: its last number and its row of each column are zero.
+fn closed_fine(columns: &Seen<'_>, s: usize) -> bool
+    requires { Long (seen columns.now) × (s < series_count) }
+    ensures { result ≡ W5_closed (series_at (seen columns.now) s) }
 {
     let row = s * STATIONS;
-    zeros(kinds, row, STATIONS)
-        & zeros(values, row, STATIONS)
-        & zeros(sent, row, STATIONS)
-        & zeros(relto, row, STATIONS)
-        & zeros(relkind, row, STATIONS)
-        & zeros(relvalue, row, STATIONS)
-        & zeros(received, row * STATIONS, STATIONS * STATIONS)
+    let rows = zeros(columns.kinds, row, STATIONS)
+        & zeros(columns.values, row, STATIONS)
+        & zeros(columns.sent, row, STATIONS)
+        & zeros(columns.relto, row, STATIONS)
+        & zeros(columns.relkind, row, STATIONS)
+        & zeros(columns.relvalue, row, STATIONS)
+        & zeros(columns.received, row * STATIONS, STATIONS * STATIONS);
+    (columns.lasts[s] == 0) & rows
 }
 
-// The number of the first rule that a series breaks.
-fn broken_rule(
-    firsts: &[Serial],
-    lasts: &[Serial],
-    kinds: &[u32],
-    values: &[Serial],
-    sent: &[u32],
-    relto: &[u32],
-    relkind: &[u32],
-    relvalue: &[Serial],
-    received: &[u32],
-) -> u32
-    requires { (series_count ≤ length firsts.now) × (series_count ≤ length lasts.now) × Sized kinds.now values.now sent.now relto.now relkind.now relvalue.now received.now }
-    ensures { result ≡ broken_in firsts.now lasts.now kinds.now values.now sent.now relto.now relkind.now relvalue.now received.now }
+// The first rule that a series breaks.
+fn broken_rule(columns: &Seen<'_>) -> Option<Rule>
+    requires { Long (seen columns.now) }
+    ensures { result ≡ broken_in (seen columns.now) }
 {
-    let mut broken = UNBROKEN;
+    let mut broken = None;
     'walk: for s in 0..SERIES {
-        if firsts[s] == 0 {
-            let rows = closed_fine(kinds, values, sent, relto, relkind, relvalue, received, s);
-            let closed = (lasts[s] == 0) & rows;
-            if closed {
+        let first = columns.firsts[s];
+        let last = columns.lasts[s];
+        if first == 0 {
+            if closed_fine(columns, s) {
                 continue;
             }
-            broken = W5;
+            broken = Some(Rule::W5);
             break 'walk;
         }
-        let bounds = bounds_fine(firsts[s], lasts[s]);
-        if !bounds {
-            broken = W1;
+        if !bounds_fine(first, last) {
+            broken = Some(Rule::W1);
             break 'walk;
         }
         for n in 0..STATIONS {
-            let kept = kept_at(kinds, values, sent, relto, relkind, relvalue, s, n);
-            let rule = kept_rule(firsts[s], lasts[s], n, kept);
-            if rule != UNBROKEN {
-                broken = rule;
+            if let Some(rule) = kept_rule(first, last, n, kept_at(columns, s, n)) {
+                broken = Some(rule);
                 break 'walk;
             }
-            let fine = received_fine(sent, relto, relkind, received, s, n);
-            if !fine {
-                broken = W3;
+            if !received_fine(columns, s, n) {
+                broken = Some(Rule::W3);
                 break 'walk;
             }
         }
-        let tokens = tokens_fine(kinds, values, sent, relto, relkind, relvalue, received, s);
-        if !tokens {
-            broken = W2;
+        if !tokens_fine(columns, s) {
+            broken = Some(Rule::W2);
             break 'walk;
         }
     }
     broken
 }
 
-// What the walk finds in tables of any size. The stations' marks come last.
-pub fn first_broken(
-    firsts: &[Serial],
-    lasts: &[Serial],
-    kinds: &[u32],
-    values: &[Serial],
-    sent: &[u32],
-    relto: &[u32],
-    relkind: &[u32],
-    relvalue: &[Serial],
-    received: &[u32],
-    up: &[u32],
-) -> Found
-    ensures { result ≡ check_copies (tables firsts.now lasts.now kinds.now values.now sent.now relto.now relkind.now relvalue.now received.now up.now) }
+// Refusal 1: whether a column has fewer entries than its stated size.
+fn is_short(columns: &Seen<'_>) -> bool
+    ensures { result ≡ short_copies (seen columns.now) }
 {
-    let short = (firsts.len() < SERIES)
-        | (lasts.len() < SERIES)
-        | (kinds.len() < PLACES)
-        | (values.len() < PLACES)
-        | (sent.len() < PLACES)
-        | (relto.len() < PLACES)
-        | (relkind.len() < PLACES)
-        | (relvalue.len() < PLACES)
-        | (received.len() < RECEIVED)
-        | (up.len() < STATIONS);
-    if short {
-        return Found::Short;
+    (columns.firsts.len() < SERIES)
+        | (columns.lasts.len() < SERIES)
+        | (columns.kinds.len() < PLACES)
+        | (columns.values.len() < PLACES)
+        | (columns.sent.len() < PLACES)
+        | (columns.relto.len() < PLACES)
+        | (columns.relkind.len() < PLACES)
+        | (columns.relvalue.len() < PLACES)
+        | (columns.received.len() < RECEIVED)
+        | (columns.up.len() < STATIONS)
+}
+
+// What the walk finds wrong in tables of any size. The stations' marks come last.
+pub fn first_broken(columns: &Seen<'_>) -> Result<(), Flaw>
+    ensures { result ≡ check_copies (seen columns.now) }
+{
+    if is_short(columns) {
+        return Err(Flaw::Short);
     }
-    let rule = broken_rule(
-        firsts, lasts, kinds, values, sent, relto, relkind, relvalue, received,
-    );
-    if rule != UNBROKEN {
-        return Found::Broken(rule);
+    if let Some(rule) = broken_rule(columns) {
+        return Err(Flaw::Broken(rule));
     }
-    let marks = marks_fine(up);
-    if marks {
-        Found::Whole
+    if marks_fine(columns.up) {
+        Ok(())
     } else {
-        Found::Broken(W1)
+        Err(Flaw::Broken(Rule::W1))
     }
 }

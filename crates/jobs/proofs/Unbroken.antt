@@ -4,7 +4,8 @@ use Prim.Native.Nat.{ℕ}
 use mathlib.Core.Path.{◌≡◌}
 use mathlib.Core.Bool.{true, false}
 use mathlib.Core.List.{List}
-use Rattle.words.specs.declared.Found.TheVariants.{Whole}
+use Rattle.std.specs.Prelude.{None, Ok}
+use Rattle.words.specs.declared.Rule.TheVariants.{W1, W4, W5}
 use Rattle.words.specs.Numbers.{job_count}
 use Rattle.words.proofs.Reflects.{Clears, clears_as, clears_broken, clears_or, clears_first}
 use Rattle.copies.specs.Tables.{Copies}
@@ -23,8 +24,8 @@ module _ (t : Copies) (bs : List Job) where
   unfolding broken_job
   job_clears j =
       clears_as (to_whole t bs j) (from_whole t bs j)
-      (clears_or _ _ (clears_broken 0 _ (W1_job_reflects (job_at bs j)))
-      (clears_or _ _ (clears_broken 3 _ (W4_job_reflects t bs j)) (clears_broken 4 _ (W5_job_reflects (job_at bs j)))))
+      (clears_or _ _ (clears_broken W1 _ (W1_job_reflects (job_at bs j)))
+      (clears_or _ _ (clears_broken W4 _ (W4_job_reflects t bs j)) (clears_broken W5 _ (W5_job_reflects (job_at bs j)))))
 
   -- and the sixteen slots
   pub jobs_clear : Clears (first_broken_job t bs) (JobsWhole t bs)
@@ -32,27 +33,27 @@ module _ (t : Copies) (bs : List Job) where
   jobs_clear = clears_first (JobWhole t bs) job_count (broken_job t bs) (λ j l. job_clears j)
 
   -- slots in which the walk finds nothing broken are whole
-  pub walk_jobs : first_broken_job t bs ≡ 0 → JobsWhole t bs
+  pub walk_jobs : first_broken_job t bs ≡ None → JobsWhole t bs
   walk_jobs = jobs_clear.0
 
   -- and in whole slots it finds nothing broken
-  pub jobs_walk : JobsWhole t bs → first_broken_job t bs ≡ 0
+  pub jobs_walk : JobsWhole t bs → first_broken_job t bs ≡ None
   jobs_walk = jobs_clear.1
 
   -- where it finds nothing broken, the tests hold
-  pub walk_job_tests : first_broken_job t bs ≡ 0 → (W1_jobs bs ≡ true) × (W4_jobs t bs ≡ true) × (W5_jobs bs ≡ true)
+  pub walk_job_tests : first_broken_job t bs ≡ None → (W1_jobs bs ≡ true) × (W4_jobs t bs ≡ true) × (W5_jobs bs ≡ true)
   walk_job_tests e = facts_jobs t bs (walk_jobs e)
 
   -- and where they hold, it finds nothing broken
-  pub job_tests_walk : W1_jobs bs ≡ true → W4_jobs t bs ≡ true → W5_jobs bs ≡ true → first_broken_job t bs ≡ 0
+  pub job_tests_walk : W1_jobs bs ≡ true → W4_jobs t bs ≡ true → W5_jobs bs ≡ true → first_broken_job t bs ≡ None
   job_tests_walk e f g = jobs_walk (jobs_facts t bs e f g)
 
-  -- the answer Whole is given of whole slots above columns of which none is short
-  pub check_jobs_whole : check_jobs t bs ≡ Whole → (short_for_jobs t ≡ false) × JobsWhole t bs
+  -- nothing is found wrong with whole slots above columns of which none is short
+  pub check_jobs_whole : check_jobs t bs ≡ Ok tt → (short_for_jobs t ≡ false) × JobsWhole t bs
   unfolding check_jobs
   check_jobs_whole e = let found = found_whole (short_for_jobs t) (first_broken_job t bs) e in (found.0, walk_jobs found.1)
 
-  -- and of all such
-  pub whole_check_jobs : short_for_jobs t ≡ false → JobsWhole t bs → check_jobs t bs ≡ Whole
+  -- and with all such
+  pub whole_check_jobs : short_for_jobs t ≡ false → JobsWhole t bs → check_jobs t bs ≡ Ok tt
   unfolding check_jobs found_by
   whole_check_jobs e w = rw (e, jobs_walk w)

@@ -1,13 +1,17 @@
 -- What the proofs of the walk over the slots cite: a law for each turn and each way out that isn't one comparison.
 -- Assumes nothing.
-use Prim.Native.Nat.{ℕ, zero, suc, ◌+◌, ◌<◌, ◌≤◌}
+use Prim.Native.Nat.{ℕ, ◌+◌, ◌<◌, ◌≤◌}
 use mathlib.Core.Path.{◌≡◌, refl, sym, ◌∙◌}
 use mathlib.Core.Bool.{Bool, true, false, cond, not, ◌&&◌, false≢true}
 use mathlib.Core.List.{List, [], ◌∷◌}
 use lib.Dec.{eqb}
 use lib.ListN.{length}
 use borrow.Author.Tests.{eq-eqb, ne_eqb, not-true, not-false}
-use Rattle.words.specs.declared.Found.TheVariants.{Short, Broken, Whole}
+use Rattle.std.specs.Prelude.{Option, Some, None, Result, Ok, Err}
+use Rattle.words.specs.declared.Rule.{Rule}
+use Rattle.words.specs.declared.Rule.TheVariants.{W1, W4, W5}
+use Rattle.words.specs.declared.Flaw.{Flaw}
+use Rattle.words.specs.declared.Flaw.TheVariants.{Short, Broken}
 use Rattle.words.specs.Numbers.{station_count, series_count, lock_count, place_count, share, exclusive}
 use Rattle.words.specs.Tests.{non, ◌and◌, ◌or◌, ◌⇒◌, all_below, some_below, broken, ◌or_else◌}
 use Rattle.words.proofs.Laws.{and_true, all_next}
@@ -95,42 +99,36 @@ in_ranges b r p e = let w = (W1_job_reflects b).0 (sym p ∙ not-false r e) in (
 
 module _ (t : Copies) (bs : List Job) (j : ℕ) (b : Job) (same : b ≡ job_at bs j) (a : Bool) (p : a ≡ W1_job b) where
   -- W1 is broken
-  pub slot_W1 : not a ≡ true → 1 ≡ broken_job t bs j
+  pub slot_W1 : not a ≡ true → Some W1 ≡ broken_job t bs j
   unfolding broken_job broken ◌or_else◌
   slot_W1 e = rw (← same, ← p, not-true a e)
 
   module _ (e : not a ≡ false) (o : Bool) (q : o ≡ W4_job t bs j) where
     -- W4 is
-    pub slot_W4 : not o ≡ true → 4 ≡ broken_job t bs j
+    pub slot_W4 : not o ≡ true → Some W4 ≡ broken_job t bs j
     unfolding broken_job broken ◌or_else◌
     slot_W4 f = rw (← same, ← p, not-false a e, ← q, not-true o f)
 
     module _ (f : not o ≡ false) (c : Bool) (h : c ≡ W5_job b) where
       -- W5 is
-      pub slot_W5 : not c ≡ true → 5 ≡ broken_job t bs j
+      pub slot_W5 : not c ≡ true → Some W5 ≡ broken_job t bs j
       unfolding broken_job broken ◌or_else◌
       slot_W5 g = rw (← same, ← p, not-false a e, ← q, not-false o f, ← h, not-true c g)
 
       -- none is
-      pub slot_fine : not c ≡ false → 0 ≡ broken_job t bs j
+      pub slot_fine : not c ≡ false → None ≡ broken_job t bs j
       unfolding broken_job broken ◌or_else◌
       slot_fine g = rw (← same, ← p, not-false a e, ← q, not-false o f, ← h, not-false c g)
 
 -- a slot that isn't open, in range and with its zeros
 pub slot_unused : (t : Copies) (bs : List Job) (j : ℕ) (o a c : Bool) → o ≡ job_open (job_at bs j) → a ≡ W1_job (job_at bs j) → c ≡ W5_job (job_at bs j)
-    → (not o && a && c) ≡ true → broken_job t bs j ≡ 0
+    → (not o && a && c) ≡ true → broken_job t bs j ≡ None
 slot_unused t bs j false true true p q r e = sym (slot_fine t bs j _ refl true q refl true (job_not_open t bs j _ refl false p refl) refl true r refl)
 slot_unused t bs j true a c p q r e = absurd (false≢true e)
 slot_unused t bs j false false c p q r e = absurd (false≢true e)
 slot_unused t bs j false true false p q r e = absurd (false≢true e)
 
 -- ---- what the walk finds
--- a rule's number that isn't 0 is found broken
-is_broken : (k : ℕ) → (k ≡ 0 → ⊥) → Broken k ≡ found_by k
-unfolding found_by
-is_broken zero h = absurd (h refl)
-is_broken (suc k) h = refl
-
 -- where none is short, each column has its size
 pub long_columns : (fs ls ks vs us : List ℕ) → short_for_jobs (tables fs ls ks vs [] [] [] [] [] us) ≡ false → (series_count ≤ length fs) × (series_count ≤ length ls) × (place_count ≤ length ks) × (place_count ≤ length vs) × (station_count ≤ length us)
 unfolding short_for_jobs ◌or◌
@@ -140,17 +138,17 @@ long_columns fs ls ks vs us e =
 
 module _ (t : Copies) (bs : List Job) where
   -- refusal 1
-  pub found_short : short_for_jobs t ≡ true → Short ≡ check_jobs t bs
+  pub found_short : short_for_jobs t ≡ true → Err Short ≡ check_jobs t bs
   unfolding check_jobs
   found_short e = rw e
 
-  module _ (sized : short_for_jobs t ≡ false) (r : ℕ) (p : r ≡ first_broken_job t bs) where
+  module _ (sized : short_for_jobs t ≡ false) (r : Option Rule) (p : r ≡ first_broken_job t bs) where
     -- a rule that a slot breaks
-    pub found_broken : (r ≡ 0 → ⊥) → Broken r ≡ check_jobs t bs
-    unfolding check_jobs
-    found_broken h = rw (sized, ← p) (is_broken r h)
+    pub found_broken : (rule : Rule) → r ≡ Some rule → Err (Broken rule) ≡ check_jobs t bs
+    unfolding check_jobs found_by
+    found_broken rule e = rw (sized, ← p, e)
 
     -- none
-    pub found_none : r ≡ 0 → Whole ≡ check_jobs t bs
+    pub found_none : r ≡ None → Ok tt ≡ check_jobs t bs
     unfolding check_jobs found_by
     found_none z = rw (sized, ← p, z)

@@ -1,8 +1,10 @@
 -- The jobs' share of the walk: the rule that it finds broken first, slot by slot, after the series and the stations' marks.
 -- Assumes nothing.
-use Rattle.std.specs.Prelude.{ℕ, Bool, cond, List}
-use Rattle.words.specs.declared.Found.{Found}
-use Rattle.words.specs.declared.Found.TheVariants.{Short}
+use Rattle.std.specs.Prelude.{ℕ, Bool, cond, List, Option, Result, Err}
+use Rattle.words.specs.declared.Rule.{Rule}
+use Rattle.words.specs.declared.Rule.TheVariants.{W1, W4, W5}
+use Rattle.words.specs.declared.Flaw.{Flaw}
+use Rattle.words.specs.declared.Flaw.TheVariants.{Short}
 use Rattle.words.specs.Numbers.{station_count, series_count, job_count, place_count}
 use Rattle.words.specs.Tests.{◌or◌, broken, ◌or_else◌, first_below}
 use Rattle.copies.specs.Tables.{Copies}
@@ -13,12 +15,12 @@ use Rattle.jobs.specs.Slots.{job_at}
 use Rattle.jobs.specs.Whole.{W1_job, W4_job, W5_job}
 
 -- slot j: its ranges, then its locks, then its zeros
-unfoldable pub broken_job : Copies → List Job → ℕ → ℕ
+unfoldable pub broken_job : Copies → List Job → ℕ → Option Rule
 broken_job t bs j =
-    broken 1 (W1_job (job_at bs j)) or_else broken 4 (W4_job t bs j) or_else broken 5 (W5_job (job_at bs j))
+    broken W1 (W1_job (job_at bs j)) or_else broken W4 (W4_job t bs j) or_else broken W5 (W5_job (job_at bs j))
 
 -- the sixteen slots in order
-unfoldable pub first_broken_job : Copies → List Job → ℕ
+unfoldable pub first_broken_job : Copies → List Job → Option Rule
 first_broken_job t bs = first_below job_count (broken_job t bs)
 
 -- a column that the jobs' rules read is short
@@ -31,5 +33,5 @@ short_for_jobs t =
     or lacks station_count t.up
 
 -- what the walk finds in the slots and in tables of any size
-unfoldable pub check_jobs : Copies → List Job → Found
-check_jobs t bs = cond (short_for_jobs t) Short (found_by (first_broken_job t bs))
+unfoldable pub check_jobs : Copies → List Job → Result (Unit {0}) Flaw
+check_jobs t bs = cond (short_for_jobs t) (Err Short) (found_by (first_broken_job t bs))

@@ -11,8 +11,7 @@ ghost use Rattle.jobs.specs.FirstBroken.{broken_job, first_broken_job, check_job
 use crate::{Job, Lock};
 use copies::{beyond, is_open, is_up, kind};
 use words::{
-    EXCLUSIVE, Found, GREATEST_SERIAL, JOBS, LOCKS, PLACES, SERIES, SHARE, STATIONS, Serial,
-    UNBROKEN, W1, W4, W5,
+    EXCLUSIVE, Flaw, GREATEST_SERIAL, JOBS, LOCKS, PLACES, Rule, SERIES, SHARE, STATIONS, Serial,
 };
 
 // W1 of a lock place.
@@ -186,7 +185,7 @@ fn open_fine(
     is_up(up, job.station) & locks_fine(job, firsts, lasts, kinds, values) & apart
 }
 
-// The number of the first rule that a job breaks; `apart` says that no other job locks what it locks exclusively.
+// The first rule that a job breaks; `apart` says that no other job locks what it locks exclusively.
 fn job_rule(
     job: Job,
     firsts: &[Serial],
@@ -195,23 +194,23 @@ fn job_rule(
     values: &[Serial],
     up: &[u32],
     apart: bool,
-) -> u32
+) -> Option<Rule>
     requires { (series_count ≤ length firsts.now) × (series_count ≤ length lasts.now) × (place_count ≤ length kinds.now) × (place_count ≤ length values.now) × (station_count ≤ length up.now) }
     ensures { (ns rt rk rv gs : List ℕ) (bs : List Job) (j : ℕ) → job ≡ job_at bs j → apart ≡ W4_alone bs j → result ≡ broken_job (tables firsts.now lasts.now kinds.now values.now ns rt rk rv gs up.now) bs j }
 {
     if !in_range(job) {
-        return W1;
+        return Some(Rule::W1);
     }
     if !open_fine(job, firsts, lasts, kinds, values, up, apart) {
-        return W4;
+        return Some(Rule::W4);
     }
     if !unused_fine(job) {
-        return W5;
+        return Some(Rule::W5);
     }
-    UNBROKEN
+    None
 }
 
-// The number of the first rule that the slots break.
+// The first rule that the slots break.
 fn broken_rule(
     jobs: [Job; JOBS],
     firsts: &[Serial],
@@ -219,7 +218,7 @@ fn broken_rule(
     kinds: &[u32],
     values: &[Serial],
     up: &[u32],
-) -> u32
+) -> Option<Rule>
     requires { (series_count ≤ length firsts.now) × (series_count ≤ length lasts.now) × (place_count ≤ length kinds.now) × (place_count ≤ length values.now) × (station_count ≤ length up.now) }
     ensures { (ns rt rk rv gs : List ℕ) → result ≡ first_broken_job (tables firsts.now lasts.now kinds.now values.now ns rt rk rv gs up.now) jobs }
 {
@@ -230,15 +229,14 @@ fn broken_rule(
         if unused {
             continue;
         }
-        let rule = job_rule(job, firsts, lasts, kinds, values, up, alone(jobs, j));
-        if rule != UNBROKEN {
-            return rule;
+        if let Some(rule) = job_rule(job, firsts, lasts, kinds, values, up, alone(jobs, j)) {
+            return Some(rule);
         }
     }
-    UNBROKEN
+    None
 }
 
-// What the walk finds in the slots and in tables of any size.
+// What the walk finds wrong in the slots and in tables of any size.
 pub fn first_broken_job(
     jobs: [Job; JOBS],
     firsts: &[Serial],
@@ -246,7 +244,7 @@ pub fn first_broken_job(
     kinds: &[u32],
     values: &[Serial],
     up: &[u32],
-) -> Found
+) -> Result<(), Flaw>
     ensures { (ns rt rk rv gs : List ℕ) → result ≡ check_jobs (tables firsts.now lasts.now kinds.now values.now ns rt rk rv gs up.now) jobs }
 {
     let short = (firsts.len() < SERIES)
@@ -255,11 +253,10 @@ pub fn first_broken_job(
         | (values.len() < PLACES)
         | (up.len() < STATIONS);
     if short {
-        return Found::Short;
+        return Err(Flaw::Short);
     }
-    let rule = broken_rule(jobs, firsts, lasts, kinds, values, up);
-    if rule != UNBROKEN {
-        return Found::Broken(rule);
+    if let Some(rule) = broken_rule(jobs, firsts, lasts, kinds, values, up) {
+        return Err(Flaw::Broken(rule));
     }
-    Found::Whole
+    Ok(())
 }

@@ -1,14 +1,16 @@
 -- The holders of a series: a law for each way out of `holders_in` and of `holders`. Assumes nothing.
 use Prim.Native.Nat.{ℕ, ◌≤◌}
-use mathlib.Core.Path.{◌≡◌, sym, ◌∙◌}
+use mathlib.Core.Path.{◌≡◌, sym, ap, ◌∙◌}
 use mathlib.Core.Bool.{Bool, true, false, not}
 use mathlib.Core.List.{List, []}
 use lib.Dec.{eqb, leb}
 use lib.ListN.{length}
 use borrow.Author.Tests.{leb-false, le-ltb}
 use Rattle.words.specs.declared.Answer.TheVariants.{Short as SHORT, NotWhole, BadEvent, None}
-use Rattle.words.specs.declared.Found.{Found}
-use Rattle.words.specs.declared.Found.TheVariants.{Short, Broken, Whole}
+use Rattle.std.specs.Prelude.{Result, Ok, Err}
+use Rattle.words.specs.declared.Rule.{Rule}
+use Rattle.words.specs.declared.Flaw.{Flaw}
+use Rattle.words.specs.declared.Flaw.TheVariants.{Short, Broken}
 use Rattle.words.specs.Numbers.{station_count, series_count, place_count}
 use Rattle.words.specs.Tests.{non, ◌or◌}
 use Rattle.words.proofs.Guards.{non_call_true, non_call_false}
@@ -62,24 +64,25 @@ module _ (firsts kinds : List ℕ) (s : ℕ) (h : Holders) (o : Bool) (l : serie
       rw (small, opened) (q ∙ set_right there set all)
 
 -- ---- all tables
-module _ (t : Copies) (bs : List Job) (found : Found) (e : found ≡ check (plant t bs)) where
+module _ (t : Copies) (bs : List Job) (found : Result (Unit {0}) Flaw) (e : found ≡ check (plant t bs)) where
   -- tables that the check finds whole are not short
-  pub whole_long : found ≡ Whole → (series_count ≤ length t.firsts) × (place_count ≤ length t.kinds)
+  pub whole_long : found ≡ Ok tt → (series_count ≤ length t.firsts) × (place_count ≤ length t.kinds)
   unfolding short_tables
   whole_long w = let l = long (neither _ _ (check_whole (plant t bs) (sym e ∙ w)).0).0 in (l.firsts, l.kinds)
 
   module _ (s : ℕ) (h : Holders) where
     -- refusal 1
-    pub holders_short : found ≡ Short → h ≡ no_holders SHORT → h ≡ holders_of (plant t bs) s
+    pub holders_short : (flaw : Flaw) → found ≡ Err flaw → flaw ≡ Short → h ≡ no_holders SHORT → h ≡ holders_of (plant t bs) s
     unfolding holders_of
-    holders_short w q = rw (check_short (plant t bs) (sym e ∙ w)) q
+    holders_short flaw w f q = rw (check_short (plant t bs) (sym e ∙ w ∙ ap Err f)) q
 
     -- refusal 2
-    pub holders_broken : (k : ℕ) → found ≡ Broken k → h ≡ no_holders NotWhole → h ≡ holders_of (plant t bs) s
+    pub holders_broken : (flaw : Flaw) (rule : Rule) → found ≡ Err flaw → flaw ≡ Broken rule → h ≡ no_holders NotWhole → h ≡ holders_of (plant t bs) s
     unfolding holders_of non
-    holders_broken k w q = let broken = check_broken (plant t bs) k (sym e ∙ w) in rw (broken.0, broken.1) q
+    holders_broken flaw rule w f q =
+        let broken = check_broken (plant t bs) rule (sym e ∙ w ∙ ap Err f) in rw (broken.0, broken.1) q
 
     -- neither
-    pub holders_whole : found ≡ Whole → h ≡ holders_there (series_in t.firsts [] t.kinds [] [] [] [] [] [] s) s → h ≡ holders_of (plant t bs) s
+    pub holders_whole : found ≡ Ok tt → h ≡ holders_there (series_in t.firsts [] t.kinds [] [] [] [] [] [] s) s → h ≡ holders_of (plant t bs) s
     unfolding holders_of holders_there non
     holders_whole w q = let fine = check_whole (plant t bs) (sym e ∙ w) in rw (fine.0, fine.1) q

@@ -1,13 +1,15 @@
 -- The ways out of the step: a law for each. Assumes nothing.
 use Prim.Native.Nat.{ℕ, ◌≤◌, ◌<◌}
-use mathlib.Core.Path.{◌≡◌, sym, ◌∙◌}
+use mathlib.Core.Path.{◌≡◌, sym, ap, ◌∙◌}
 use mathlib.Core.Bool.{false}
 use mathlib.Core.List.{List}
 use lib.ListN.{length}
 use borrow.Author.Tests.{lt-ltb, le-ltb}
 use Rattle.words.specs.declared.Answer.TheVariants.{Short, NotWhole}
-use Rattle.words.specs.declared.Found.{Found}
-use Rattle.words.specs.declared.Found.TheVariants.{Short as FoundShort, Broken, Whole}
+use Rattle.std.specs.Prelude.{Result, Ok, Err}
+use Rattle.words.specs.declared.Rule.{Rule}
+use Rattle.words.specs.declared.Flaw.{Flaw}
+use Rattle.words.specs.declared.Flaw.TheVariants.{Short as FlawShort, Broken}
 use Rattle.words.specs.Numbers.{out_count}
 use Rattle.words.specs.Tests.{non, ◌or◌}
 use Rattle.words.proofs.Laws.{or_true}
@@ -37,9 +39,9 @@ module _ (t : Copies) (bs : List Job) (out : List ℕ) (e : Event) where
   way_room l = rw (lt-ltb _ _ l, or_true (short_tables lent))
 
   -- a table is short
-  pub way_short : (found : Found) → found ≡ check lent → found ≡ FoundShort → left (stepped Short bs) t out ≡ step_of lent out e
+  pub way_short : (found : Result (Unit {0}) Flaw) (flaw : Flaw) → found ≡ check lent → found ≡ Err flaw → flaw ≡ FlawShort → left (stepped Short bs) t out ≡ step_of lent out e
   unfolding step_of effect judged SHORT shown ◌or◌
-  way_short found p h = rw (check_short lent (sym p ∙ h))
+  way_short found flaw p h f = rw (check_short lent (sym p ∙ h ∙ ap Err f))
 
   -- refusal 1 is not given
   long_enough : out_count ≤ length out → short_tables lent ≡ false → SHORT out lent e ≡ false
@@ -47,15 +49,15 @@ module _ (t : Copies) (bs : List Job) (out : List ℕ) (e : Event) where
   long_enough l h = rw (h, le-ltb _ _ l)
 
   -- NOT WHOLE
-  pub way_broken : (rule : ℕ) (found : Found) → out_count ≤ length out → found ≡ check lent → found ≡ Broken rule
+  pub way_broken : (rule : Rule) (found : Result (Unit {0}) Flaw) (flaw : Flaw) → out_count ≤ length out → found ≡ check lent → found ≡ Err flaw → flaw ≡ Broken rule
       → left (stepped NotWhole bs) t out ≡ step_of lent out e
   unfolding step_of effect judged NOT_WHOLE non shown
-  way_broken rule found l p h =
-      let broken = check_broken lent rule (sym p ∙ h) in
+  way_broken rule found flaw l p h f =
+      let broken = check_broken lent rule (sym p ∙ h ∙ ap Err f) in
       rw (long_enough l broken.0, broken.1)
 
   -- whole tables
-  pub way_whole : (r : Stepped) (t' : Copies) (out' : List ℕ) (found : Found) → out_count ≤ length out → found ≡ check lent → found ≡ Whole
+  pub way_whole : (r : Stepped) (t' : Copies) (out' : List ℕ) (found : Result (Unit {0}) Flaw) → out_count ≤ length out → found ≡ check lent → found ≡ Ok tt
       → left r t' out' ≡ unchecked_step lent out e
       → left r t' out' ≡ step_of lent out e
   way_whole r t' out' found l p h made =

@@ -7,10 +7,10 @@ ghost use Rattle.rulebook.specs.Around.{no_holders, holders_there, holders_of};
 ghost use Rattle.machine.specs.Holding.{by_set};
 
 use crate::whole::check;
-use copies::is_open;
+use copies::{Seen, is_open};
 use jobs::Job;
 use rulebook::Holders;
-use words::{Answer, Found, JOBS, SERIES, Serial};
+use words::{Answer, Flaw, JOBS, SERIES, Serial};
 
 // A refusal, with all three 0.
 pub fn no_holders(answer: Answer) -> Holders
@@ -69,12 +69,21 @@ pub fn holders(
 ) -> Holders
     ensures { result ≡ holders_of (plant (tables firsts.now lasts.now kinds.now values.now sent.now relto.now relkind.now relvalue.now received.now up.now) jobs) series }
 {
-    let found = check(
-        jobs, firsts, lasts, kinds, values, sent, relto, relkind, relvalue, received, up,
-    );
-    match found {
-        Found::Short => no_holders(Answer::Short),
-        Found::Broken(_) => no_holders(Answer::NotWhole),
-        Found::Whole => holders_in(firsts, kinds, series),
+    let columns = Seen {
+        firsts,
+        lasts,
+        kinds,
+        values,
+        sent,
+        relto,
+        relkind,
+        relvalue,
+        received,
+        up,
+    };
+    match check(jobs, &columns) {
+        Err(Flaw::Short) => no_holders(Answer::Short),
+        Err(Flaw::Broken(_)) => no_holders(Answer::NotWhole),
+        Ok(()) => holders_in(firsts, kinds, series),
     }
 }

@@ -6,10 +6,11 @@ ghost use Rattle.rulebook.specs.Steps.{step_of};
 ghost use Rattle.events.specs.Calls.{left};
 
 use crate::whole::check;
+use copies::Seen;
 use events::step_unchecked;
 use jobs::{Job, Stepped};
 use rulebook::Event;
-use words::{Answer, Found, JOBS, OUTPUT, Serial};
+use words::{Answer, Flaw, JOBS, OUTPUT, Serial};
 
 // THE STEP: an event, the tables, the output. SHORT, NOT WHOLE, and then the listed order.
 pub fn step(
@@ -36,19 +37,28 @@ pub fn step(
             jobs,
         };
     }
-    let found = check(
-        jobs, firsts, lasts, kinds, values, sent, relto, relkind, relvalue, received, up,
-    );
-    match found {
-        Found::Short => Stepped {
+    let columns = Seen {
+        firsts,
+        lasts,
+        kinds,
+        values,
+        sent,
+        relto,
+        relkind,
+        relvalue,
+        received,
+        up,
+    };
+    match check(jobs, &columns) {
+        Err(Flaw::Short) => Stepped {
             answer: Answer::Short,
             jobs,
         },
-        Found::Broken(_) => Stepped {
+        Err(Flaw::Broken(_)) => Stepped {
             answer: Answer::NotWhole,
             jobs,
         },
-        Found::Whole => step_unchecked(
+        Ok(()) => step_unchecked(
             jobs, firsts, lasts, kinds, values, sent, relto, relkind, relvalue, received, up, out,
             event,
         ),

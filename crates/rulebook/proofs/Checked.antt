@@ -1,10 +1,11 @@
 -- What the check of specs/Whole.antt finds is what the tests W1 to W5 say, and whole tables are whole in both layers.
 -- Assumes nothing.
-use Prim.Native.Nat.{ℕ, zero, suc}
-use native.Mathlib.Omega.{arith}
 use mathlib.Core.Path.{◌≡◌, refl}
 use mathlib.Core.Bool.{Bool, true, false, cond}
-use Rattle.words.specs.declared.Found.TheVariants.{Short, Broken, Whole}
+use Rattle.std.specs.Prelude.{Option, Some, None, Result, Ok, Err}
+use Rattle.words.specs.declared.Rule.{Rule}
+use Rattle.words.specs.declared.Flaw.{Flaw}
+use Rattle.words.specs.declared.Flaw.TheVariants.{Short, Broken}
 use Rattle.words.specs.Tests.{◌and◌, ◌or_else◌}
 use Rattle.words.proofs.Laws.{both_true}
 use Rattle.words.proofs.Reflects.{Reflects, Clears, reflects_as, reflects_self, reflects_and, clears_or}
@@ -27,19 +28,19 @@ fails : (b : Bool) → (b ≡ true → ⊥) → b ≡ false
 fails true h = absurd (h refl)
 fails false h = refl
 
--- SHORT is answered where a table is short
-found_short : (b : Bool) (k : ℕ) → cond b Short (found_by k) ≡ Short → b ≡ true
+-- a table is found short where one is
+found_short : (b : Bool) (k : Option Rule) → cond b (Err Short) (found_by k) ≡ Err Short → b ≡ true
 unfolding found_by
 found_short true k e = refl
-found_short false zero e = cc
-found_short false (suc k) e = cc
+found_short false None e = cc
+found_short false (Some rule) e = cc
 
--- a broken rule is answered where none is short and the walk found one
-found_broken : (b : Bool) (k r : ℕ) → cond b Short (found_by k) ≡ Broken r → (b ≡ false) × (k ≡ 0 → ⊥)
+-- a rule is found broken where none is short and the walk found one
+found_broken : (b : Bool) (k : Option Rule) (rule : Rule) → cond b (Err Short) (found_by k) ≡ Err (Broken rule) → (b ≡ false) × (k ≡ None → ⊥)
 unfolding found_by
-found_broken true k r e = (cc, λ z. let n : ◌≡◌ {A = ℕ} 0 1 = cc in omega arith)
-found_broken false zero r e = (refl, λ z. let n : ◌≡◌ {A = ℕ} 0 1 = cc in omega arith)
-found_broken false (suc k) r e = (refl, λ z. omega arith)
+found_broken true k rule e = (cc, λ z. cc)
+found_broken false None rule e = (refl, λ z. cc)
+found_broken false (Some first) rule e = (refl, λ z. cc)
 
 module _ (p : Plant) where
   -- both layers' tables are whole
@@ -97,18 +98,18 @@ module _ (p : Plant) where
   walks_clear : Clears (first_broken p.copies or_else first_broken_job p.copies p.jobs) PlantWhole
   walks_clear = clears_or _ _ (walk_clears p.copies) (jobs_clear p.copies p.jobs)
 
-  -- Whole is found in whole tables none of which is short
-  pub check_whole : check p ≡ Whole → (short_tables p ≡ false) × (whole p ≡ true)
+  -- nothing is found wrong in whole tables none of which is short
+  pub check_whole : check p ≡ Ok tt → (short_tables p ≡ false) × (whole p ≡ true)
   unfolding check
   check_whole e = let found = found_whole (short_tables p) _ e in (found.0, facts_whole (walks_clear.0 found.1))
 
-  -- Short where one is short
-  pub check_short : check p ≡ Short → short_tables p ≡ true
+  -- a table is found short where one is
+  pub check_short : check p ≡ Err Short → short_tables p ≡ true
   unfolding check
   check_short e = found_short (short_tables p) _ e
 
-  -- a broken rule in tables that aren't whole, none of which is short
-  pub check_broken : (k : ℕ) → check p ≡ Broken k → (short_tables p ≡ false) × (whole p ≡ false)
+  -- a broken rule is found in tables that aren't whole, none of which is short
+  pub check_broken : (rule : Rule) → check p ≡ Err (Broken rule) → (short_tables p ≡ false) × (whole p ≡ false)
   unfolding check
-  check_broken k e =
-      let found = found_broken (short_tables p) _ k e in (found.0, fails (whole p) (λ w. found.1 (walks_clear.1 (whole_facts w))))
+  check_broken rule e =
+      let found = found_broken (short_tables p) _ rule e in (found.0, fails (whole p) (λ w. found.1 (walks_clear.1 (whole_facts w))))

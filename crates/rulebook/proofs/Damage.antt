@@ -1,17 +1,18 @@
 -- Each change of the busy plant breaks one rule, by computation.
 -- Assumes nothing.
-use Prim.Native.Nat.{ℕ}
 use mathlib.Core.Path.{◌≡◌, refl, ap, ◌∙◌}
 use mathlib.Core.List.{List, ◌++◌, map}
+use Rattle.words.specs.declared.Rule.{Rule}
+use Rattle.words.specs.declared.Rule.TheVariants.{W1, W2, W3, W4, W5}
 use Rattle.rulebook.specs.Tables.{Plant}
-use Rattle.rulebook.specs.Whole.{W4}
+use Rattle.rulebook.specs.Whole as tests
 use Rattle.rulebook.specs.Damage.{unless, broken_rules, after, busy, damages, DamageTold}
 use Rattle.rulebook.proofs.Walked.{W1_walked, W2_walked, W3_walked, W5_walked, W1_walked_lem, W2_walked_lem, W3_walked_lem, W5_walked_lem}
 use Rattle.rulebook.proofs.Computes.{computes}
 
-broken_walked : Plant → List ℕ
+broken_walked : Plant → List Rule
 broken_walked p =
-    unless (W1_walked p) 1 ++ unless (W2_walked p) 2 ++ unless (W3_walked p) 3 ++ unless (W4 p) 4 ++ unless (W5_walked p) 5
+    unless (W1_walked p) W1 ++ unless (W2_walked p) W2 ++ unless (W3_walked p) W3 ++ unless (tests.W4 p) W4 ++ unless (W5_walked p) W5
 
 broken_walked_lem : (p : Plant) → broken_rules p ≡ broken_walked p
 unfolding broken_rules broken_walked
@@ -23,4 +24,4 @@ computed = refl
 
 pub damage_told : DamageTold
 unfolding DamageTold
-damage_told = ap (λ (broken : Plant → List ℕ). map (λ d. broken (d.change busy)) damages) (λ x p. broken_walked_lem p x) ∙ computed
+damage_told = ap (λ (broken : Plant → List Rule). map (λ d. broken (d.change busy)) damages) (λ x p. broken_walked_lem p x) ∙ computed

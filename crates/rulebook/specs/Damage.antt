@@ -1,6 +1,8 @@
 -- W1 to W5 of 01 told apart: tables that were whole, each with one number changed, and the one rule that it then breaks.
 -- Assumes nothing.
 use Rattle.std.specs.Prelude.{ℕ, ◌≡◌, Bool, cond, List, [], ◌∷◌, ◌++◌, map, set}
+use Rattle.words.specs.declared.Rule.{Rule}
+use Rattle.words.specs.declared.Rule.TheVariants.{W1, W2, W3, W4, W5}
 use Rattle.copies.specs.Tables.{Copies, with_bounds, with_copies, with_releases, with_received, place, received_place}
 use Rattle.copies.specs.Steps.{put_kind, marked}
 use Rattle.jobs.specs.declared.Job.{Job}
@@ -9,19 +11,20 @@ use Rattle.jobs.specs.Slots.{job_at}
 use Rattle.rulebook.specs.declared.Event.{Event}
 use Rattle.rulebook.specs.Tables.{Plant, with_jobs}
 use Rattle.rulebook.specs.Tables as plant
-use Rattle.rulebook.specs.Whole.{W1, W2, W3, W4, W5}
+use Rattle.rulebook.specs.Whole as tests
 use Rattle.rulebook.specs.Events.{OPEN, BEGIN, LOCKX, LOCKS, DRAW, SEND, DEMOTE, SHARE, GRANT, ACK}
 use Rattle.rulebook.specs.Steps.{accepted}
 use Rattle.rulebook.specs.Around.{empty_plant}
 use Rattle.rulebook.specs.Edges.{event}
 
--- the rule's number where its test fails
-abbrev pub unless : Bool → ℕ → List ℕ
-unless test k = cond test [] (k ∷ [])
+-- the rule where its test fails
+abbrev pub unless : Bool → Rule → List Rule
+unless test rule = cond test [] (rule ∷ [])
 
--- the numbers of the rules that tables break
-unfoldable pub broken_rules : Plant → List ℕ
-broken_rules p = unless (W1 p) 1 ++ unless (W2 p) 2 ++ unless (W3 p) 3 ++ unless (W4 p) 4 ++ unless (W5 p) 5
+-- the rules that tables break
+unfoldable pub broken_rules : Plant → List Rule
+broken_rules p =
+    unless (tests.W1 p) W1 ++ unless (tests.W2 p) W2 ++ unless (tests.W3 p) W3 ++ unless (tests.W4 p) W4 ++ unless (tests.W5 p) W5
 
 -- the plant after the accepted steps of some events
 unfoldable pub after : Plant → List Event → Plant
@@ -123,10 +126,10 @@ drawn_as i count b = put_lock b i (record { series = (lock_at b i).series; mode 
 -- a change, and the rules that it breaks
 pub record Damage : Type 0 where
   pub change : Plant → Plant
-  pub rules : List ℕ
+  pub rules : List Rule
 
 -- a change that breaks one rule
-abbrev pub breaks : ℕ → (Plant → Plant) → Damage
+abbrev pub breaks : Rule → (Plant → Plant) → Damage
 breaks rule change = record { change = change; rules = rule ∷ [] }
 
 -- no change, and then changes of one number, each of which breaks one rule without another. Some parts of a rule can't be broken so: a job's station, a
@@ -135,53 +138,53 @@ unfoldable pub damages : List Damage
 damages =
     record { change = λ p. p; rules = [] }
     -- a last number above the greatest, or below the first; a kind that there isn't; a void copy's value above last + 1, or below first; a sent count above 9,999
-    ∷ breaks 1 (in_copies (last_as 0 1_000_000_000))
-    ∷ breaks 1 (in_copies (last_as 2 0))
-    ∷ breaks 1 (in_copies (kind_as 0 5 3))
-    ∷ breaks 1 (in_copies (value_as 0 5 21))
-    ∷ breaks 1 (in_copies (value_as 0 5 9))
-    ∷ breaks 1 (in_copies (sent_as 0 5 10_000))
+    ∷ breaks W1 (in_copies (last_as 0 1_000_000_000))
+    ∷ breaks W1 (in_copies (last_as 2 0))
+    ∷ breaks W1 (in_copies (kind_as 0 5 3))
+    ∷ breaks W1 (in_copies (value_as 0 5 21))
+    ∷ breaks W1 (in_copies (value_as 0 5 9))
+    ∷ breaks W1 (in_copies (sent_as 0 5 10_000))
     -- a Release to its own station, or to none; a delivered one's kind that there isn't, or value out of bounds; a station's mark
-    ∷ breaks 1 (in_copies (receiver_as 1 0 0))
-    ∷ breaks 1 (in_copies (receiver_as 1 0 8))
-    ∷ breaks 1 (in_copies (rel_kind_as 2 0 3))
-    ∷ breaks 1 (in_copies (rel_value_as 2 0 3))
-    ∷ breaks 1 (in_copies (mark_as 6 2))
+    ∷ breaks W1 (in_copies (receiver_as 1 0 0))
+    ∷ breaks W1 (in_copies (receiver_as 1 0 8))
+    ∷ breaks W1 (in_copies (rel_kind_as 2 0 3))
+    ∷ breaks W1 (in_copies (rel_value_as 2 0 3))
+    ∷ breaks W1 (in_copies (mark_as 6 2))
     -- a job's mark, a lock's mode
-    ∷ breaks 1 (in_job 0 (open_as 2))
-    ∷ breaks 1 (in_job 0 (mode_as 0 3))
+    ∷ breaks W1 (in_job 0 (open_as 2))
+    ∷ breaks W1 (in_job 0 (mode_as 0 3))
     -- a second exclusive copy; no token at all; an exclusive beside shares; a share, a share under way that says another number
-    ∷ breaks 2 (in_copies (kind_as 0 3 2))
-    ∷ breaks 2 (in_copies (kind_as 2 1 0))
-    ∷ breaks 2 (in_copies (kind_as 1 4 2))
-    ∷ breaks 2 (in_copies (value_as 1 1 6))
-    ∷ breaks 2 (in_copies (rel_value_as 1 0 6))
+    ∷ breaks W2 (in_copies (kind_as 0 3 2))
+    ∷ breaks W2 (in_copies (kind_as 2 1 0))
+    ∷ breaks W2 (in_copies (kind_as 1 4 2))
+    ∷ breaks W2 (in_copies (value_as 1 1 6))
+    ∷ breaks W2 (in_copies (rel_value_as 1 0 6))
     -- received more than was sent; the standing Release's number at another station; received from itself
-    ∷ breaks 3 (in_copies (received_as 0 4 3 1))
-    ∷ breaks 3 (in_copies (received_as 2 5 0 1))
-    ∷ breaks 3 (in_copies (received_as 1 1 1 1))
+    ∷ breaks W3 (in_copies (received_as 0 4 3 1))
+    ∷ breaks W3 (in_copies (received_as 2 5 0 1))
+    ∷ breaks W3 (in_copies (received_as 1 1 1 1))
     -- an open job at a station that is down; a lock of a series not open, or of a copy not held; drawn more than is left; a share
     -- lock of an exclusive copy; an exclusive lock of a share copy; a share lock with a drawn count
-    ∷ breaks 4 (in_copies (mark_as 0 0))
-    ∷ breaks 4 (in_job 1 (series_as 0 9))
-    ∷ breaks 4 (in_job 1 (series_as 0 2))
-    ∷ breaks 4 (in_job 0 (drawn_as 0 11))
-    ∷ breaks 4 (in_job 1 (mode_as 0 1))
-    ∷ breaks 4 (in_job 2 (mode_as 0 2))
-    ∷ breaks 4 (in_job 2 (drawn_as 0 1))
+    ∷ breaks W4 (in_copies (mark_as 0 0))
+    ∷ breaks W4 (in_job 1 (series_as 0 9))
+    ∷ breaks W4 (in_job 1 (series_as 0 2))
+    ∷ breaks W4 (in_job 0 (drawn_as 0 11))
+    ∷ breaks W4 (in_job 1 (mode_as 0 1))
+    ∷ breaks W4 (in_job 2 (mode_as 0 2))
+    ∷ breaks W4 (in_job 2 (drawn_as 0 1))
     -- two jobs' exclusive locks of one copy; two locks of one series
-    ∷ breaks 4 (in_job 1 (series_as 0 0))
-    ∷ breaks 4 (in_job 1 (series_as 1 3))
+    ∷ breaks W4 (in_job 1 (series_as 0 0))
+    ∷ breaks W4 (in_job 1 (series_as 1 3))
     -- a series that isn't open, a Release that doesn't stand, an unused slot, an unused lock place keep something; a used place comes after one
     -- that isn't
-    ∷ breaks 5 (in_copies (last_as 9 5))
-    ∷ breaks 5 (in_copies (value_as 9 0 5))
-    ∷ breaks 5 (in_copies (received_as 63 7 0 1))
-    ∷ breaks 5 (in_copies (receiver_as 0 0 2))
-    ∷ breaks 5 (in_copies (rel_value_as 0 0 5))
-    ∷ breaks 5 (in_job 15 (station_as 3))
-    ∷ breaks 5 (in_job 0 (series_as 3 2))
-    ∷ breaks 5 (in_job 1 (mode_as 0 0))
+    ∷ breaks W5 (in_copies (last_as 9 5))
+    ∷ breaks W5 (in_copies (value_as 9 0 5))
+    ∷ breaks W5 (in_copies (received_as 63 7 0 1))
+    ∷ breaks W5 (in_copies (receiver_as 0 0 2))
+    ∷ breaks W5 (in_copies (rel_value_as 0 0 5))
+    ∷ breaks W5 (in_job 15 (station_as 3))
+    ∷ breaks W5 (in_job 0 (series_as 3 2))
+    ∷ breaks W5 (in_job 1 (mode_as 0 0))
     ∷ []
 
 -- THE STATEMENT: the busy plant is whole, and each change of it breaks the rule named, and no other.

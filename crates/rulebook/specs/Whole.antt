@@ -1,8 +1,8 @@
 -- "When tables are whole" in 01: W1 to W5, each from the shares of the two layers.
 -- Assumes nothing.
-use Rattle.std.specs.Prelude.{Bool, cond}
-use Rattle.words.specs.declared.Found.{Found}
-use Rattle.words.specs.declared.Found.TheVariants.{Short}
+use Rattle.std.specs.Prelude.{Bool, cond, Result, Err}
+use Rattle.words.specs.declared.Flaw.{Flaw}
+use Rattle.words.specs.declared.Flaw.TheVariants.{Short}
 use Rattle.words.specs.Tests.{◌and◌, ◌or_else◌}
 use Rattle.copies.specs.Whole.{W1_copies, W2_copies, W3_copies, W5_copies}
 use Rattle.copies.specs.FirstBroken.{first_broken, found_by}
@@ -34,7 +34,7 @@ W5 p = W5_copies p.copies and W5_jobs p.jobs
 unfoldable pub whole : Plant → Bool
 whole p = W1 p and W2 p and W3 p and W4 p and W5 p
 
--- what the check finds in tables of any size: one is short, or the rule that the walk finds broken first, or they are whole
-unfoldable pub check : Plant → Found
+-- what the check finds wrong in tables of any size: one is short, or the rule that the walk finds broken first
+unfoldable pub check : Plant → Result (Unit {0}) Flaw
 check p =
-    cond (short_tables p) Short (found_by (first_broken p.copies or_else first_broken_job p.copies p.jobs))
+    cond (short_tables p) (Err Short) (found_by (first_broken p.copies or_else first_broken_job p.copies p.jobs))

@@ -11,4 +11,4 @@ use Rattle.copies.proofs.walk.at_most.Given as goal
 
 abbrev pub invariant-loop-m : goal.invariant-loop-m
 invariant-loop-m l =
-    (l.m ≤ station_count) × (l.all ≡ all_below l.m (λ k. leb (get_or l.received (received_place l.s l.n k) 0) (get_or l.sent (place l.s k) 0)))
+    (l.m ≤ station_count) × (l.all ≡ all_below l.m (λ k. leb (get_or l.columns.received.now (received_place l.s l.n k) 0) (get_or l.columns.sent.now (place l.s k) 0)))

@@ -1,6 +1,6 @@
 -- `broken_rule` meets its contract: after j turns, the slots below j are known to break no rule. Assumes nothing.
 use native.Mathlib.Omega.{arith}
-use mathlib.Core.Path.{refl, sym}
+use mathlib.Core.Path.{refl, sym, ◌∙◌}
 use Rattle.words.proofs.Laws.{first_none, first_next, first_stop, first_end}
 use Rattle.jobs.specs.FirstBroken.{first_broken_job}
 use Rattle.jobs.proofs.Ways.{slot_unused}
@@ -13,23 +13,23 @@ pub loop-j-preserved-then-unused : goal.loop-j-preserved-then-unused
 loop-j-preserved-then-unused c =
     let below = c.loop-j.invariant.1 in (
       omega arith,
-      λ ns rt rk rv gs. first_next _ _ _ 0 (below ns rt rk rv gs) (sym (slot_unused _ _ _ _ _ _ c.is_open.ensures
-          c.in_range.ensures c.unused_fine.ensures c.if-unused.true)) refl refl,
+      λ ns rt rk rv gs. first_next _ _ _ (below ns rt rk rv gs) (slot_unused _ _ _ _ _ _ c.is_open.ensures c.in_range.ensures
+          c.unused_fine.ensures c.if-unused.true) refl,
     )
 
-pub returns-then-rule-ne-UNBROKEN : goal.returns-then-rule-ne-UNBROKEN
+pub returns-in-Some : goal.returns-in-Some
 unfolding first_broken_job
-returns-then-rule-ne-UNBROKEN c ns rt rk rv gs =
+returns-in-Some c ns rt rk rv gs =
     let below = c.loop-j.invariant.1 in
-    let rule = c.job_rule-rule.ensures ns rt rk rv gs _ _ refl c.alone.ensures in
+    let rule = sym c.in-Some.is ∙ c.job_rule.ensures ns rt rk rv gs _ _ refl c.alone.ensures in
     search (first_stop, below, rule)
 
 pub loop-j-preserved : goal.loop-j-preserved
 loop-j-preserved c =
     let below = c.loop-j.invariant.1 in (
       omega arith,
-      λ ns rt rk rv gs. first_next _ _ _ _ (below ns rt rk rv gs)
-          (c.job_rule-rule.ensures ns rt rk rv gs _ _ refl c.alone.ensures) c.if-rule-ne-UNBROKEN.false refl,
+      λ ns rt rk rv gs. first_next _ _ _ (below ns rt rk rv gs)
+          (sym (c.job_rule.ensures ns rt rk rv gs _ _ refl c.alone.ensures) ∙ c.in_default.is) refl,
     )
 
 pub returns : goal.returns

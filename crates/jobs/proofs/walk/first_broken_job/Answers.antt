@@ -8,10 +8,10 @@ pub returns-then-short : goal.returns-then-short
 unfolding short_for_jobs ◌or◌
 returns-then-short c ns rt rk rv gs = search found_short
 
-pub returns-then-rule-ne-UNBROKEN : goal.returns-then-rule-ne-UNBROKEN
+pub returns-in-Some : goal.returns-in-Some
 unfolding short_for_jobs ◌or◌
-returns-then-rule-ne-UNBROKEN c ns rt rk rv gs = search (found_broken, c.broken_rule-rule.ensures)
+returns-in-Some c ns rt rk rv gs = search (found_broken, c.broken_rule.ensures)
 
 pub returns : goal.returns
 unfolding short_for_jobs ◌or◌
-returns c ns rt rk rv gs = search (found_none, c.broken_rule-rule.ensures)
+returns c ns rt rk rv gs = search (found_none, c.broken_rule.ensures)

@@ -3,13 +3,13 @@ use Rattle.machine.proofs.Held.{whole_long, holders_short, holders_broken, holde
 use Rattle.machine.proofs.holding.holders.Goals as goal
 
 pub holders_in-requires : goal.holders_in-requires
-holders_in-requires c = whole_long _ _ _ c.check-found.ensures c.in-Whole.is
+holders_in-requires c = whole_long _ _ _ c.check.ensures c.in-Ok.is
 
-pub returns-in-Short : goal.returns-in-Short
-returns-in-Short c = search holders_short
+pub returns-in-Err-Short : goal.returns-in-Err-Short
+returns-in-Err-Short c = search holders_short
 
-pub returns-in-Broken : goal.returns-in-Broken
-returns-in-Broken c = search holders_broken
+pub returns-in-Err-Broken : goal.returns-in-Err-Broken
+returns-in-Err-Broken c = search holders_broken
 
-pub returns-in-Whole : goal.returns-in-Whole
-returns-in-Whole c = search holders_whole
+pub returns-in-Ok : goal.returns-in-Ok
+returns-in-Ok c = search holders_whole
