@@ -6,7 +6,7 @@ ghost use Rattle.copies.specs.Tables.{tables};
 ghost use Rattle.copies.specs.Calls.{outcome, open_series, open_in, raise, raise_in};
 
 use crate::checks::{bad_copy, bad_opening};
-use words::{Answer, EXCLUSIVE, GREATEST_SERIAL, PLACES, SERIES, STATIONS, Serial, VOID};
+use words::{Answer, EXCLUSIVE, GREATEST_SERIAL, PLACES, Refusal, SERIES, STATIONS, Serial, VOID};
 
 // Writes a number at all eight stations of a series, from its row on.
 fn fill_row(column: &mut [u32], row: usize, number: u32)
@@ -35,17 +35,17 @@ fn open_in(
         ≡ open_in (tables firsts.old lasts.old kinds.old values.old ns rt rk rv gs up.now) series first last station }
 {
     if firsts[series as usize] != 0 {
-        return Answer::Taken;
+        return Err(Refusal::Taken);
     }
     if up[station as usize] != 1 {
-        return Answer::Down;
+        return Err(Refusal::Down);
     }
     firsts[series as usize] = first;
     lasts[series as usize] = last;
     fill_row(kinds, series as usize * STATIONS, VOID);
     kinds[series as usize * STATIONS + station as usize] = EXCLUSIVE;
     fill_row(values, series as usize * STATIONS, first);
-    Answer::Done(0)
+    Ok(0)
 }
 
 // 1 OPEN: exclusive at the station, void elsewhere, all values the first number.
@@ -69,10 +69,10 @@ pub fn open_series(
         | (values.len() < PLACES)
         | (up.len() < STATIONS)
     {
-        return Answer::Short;
+        return Err(Refusal::Short);
     }
     if bad_opening(series, first, last, station) {
-        return Answer::BadEvent;
+        return Err(Refusal::BadEvent);
     }
     open_in(
         firsts, lasts, kinds, values, up, series, first, last, station,
@@ -105,13 +105,13 @@ fn raise_in(
     let at = series as usize * STATIONS + station as usize;
     let value = values[at];
     if is_beyond(lasts[series as usize], value, count) {
-        return Answer::Range;
+        return Err(Refusal::Range);
     }
     if GREATEST_SERIAL as u64 + 1 < value as u64 + count as u64 {
-        return Answer::Range;
+        return Err(Refusal::Range);
     }
     values[at] = value + count;
-    Answer::Done(0)
+    Ok(0)
 }
 
 // COMMIT's share: a drawn count is added to the copy's value, unless the sum would pass last + 1 or the greatest last number + 1.
@@ -126,10 +126,10 @@ pub fn raise(
         ≡ raise (tables fs lasts.now ks values.old ns rt rk rv gs us) series station count }
 {
     if (lasts.len() < SERIES) | (values.len() < PLACES) {
-        return Answer::Short;
+        return Err(Refusal::Short);
     }
     if bad_copy(series, station) {
-        return Answer::BadEvent;
+        return Err(Refusal::BadEvent);
     }
     raise_in(lasts, values, series, station, count)
 }

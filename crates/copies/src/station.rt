@@ -6,7 +6,7 @@ ghost use Rattle.copies.specs.Tables.{tables, place};
 ghost use Rattle.copies.specs.Calls.{outcome, crash, restart, restart_in};
 
 use crate::read::if_held;
-use words::{Answer, PLACES, SERIES, STATIONS};
+use words::{Answer, PLACES, Refusal, SERIES, STATIONS};
 
 // 16 CRASH, the station's mark alone: closing its jobs is the upper layer's part.
 pub fn crash(up: &mut [u32], station: u32) -> Answer
@@ -14,16 +14,16 @@ pub fn crash(up: &mut [u32], station: u32) -> Answer
         ≡ crash (tables fs ls ks vs ns rt rk rv gs up.old) station }
 {
     if up.len() < STATIONS {
-        return Answer::Short;
+        return Err(Refusal::Short);
     }
     if STATIONS <= station as usize {
-        return Answer::BadEvent;
+        return Err(Refusal::BadEvent);
     }
     if up[station as usize] != 1 {
-        return Answer::Down;
+        return Err(Refusal::Down);
     }
     up[station as usize] = 0;
-    Answer::Done(0)
+    Ok(0)
 }
 
 // How many copies of the station are not void.
@@ -45,10 +45,10 @@ fn restart_in(kinds: &[u32], up: &mut [u32], station: u32) -> Answer
         ≡ restart_in (tables fs ls kinds.now vs ns rt rk rv gs up.old) station }
 {
     if up[station as usize] == 1 {
-        return Answer::Up;
+        return Err(Refusal::Up);
     }
     up[station as usize] = 1;
-    Answer::Done(held_count(kinds, station))
+    Ok(held_count(kinds, station))
 }
 
 // 17 RESTART: the station is up; the value is the number of its copies that are not void.
@@ -57,10 +57,10 @@ pub fn restart(kinds: &[u32], up: &mut [u32], station: u32) -> Answer
         ≡ restart (tables fs ls kinds.now vs ns rt rk rv gs up.old) station }
 {
     if (kinds.len() < PLACES) | (up.len() < STATIONS) {
-        return Answer::Short;
+        return Err(Refusal::Short);
     }
     if STATIONS <= station as usize {
-        return Answer::BadEvent;
+        return Err(Refusal::BadEvent);
     }
     restart_in(kinds, up, station)
 }

@@ -7,7 +7,7 @@ ghost use Rattle.copies.specs.Calls.{outcome, demote, demote_in, drop, drop_in, 
 
 use crate::checks::bad_copy;
 use crate::read::is_undelivered;
-use words::{Answer, EXCLUSIVE, PLACES, RECEIVED, SERIES, SHARE, STATIONS, Serial, VOID};
+use words::{Answer, EXCLUSIVE, PLACES, RECEIVED, Refusal, SERIES, SHARE, STATIONS, Serial, VOID};
 
 // DEMOTE where refusals 1 and 3 are not given.
 fn demote_in(
@@ -23,20 +23,20 @@ fn demote_in(
         ≡ demote_in (tables firsts.now ls kinds.old vs ns rt rk rv gs up.now) free series station }
 {
     if firsts[series as usize] == 0 {
-        return Answer::None;
+        return Err(Refusal::None);
     }
     if up[station as usize] != 1 {
-        return Answer::Down;
+        return Err(Refusal::Down);
     }
     let at = series as usize * STATIONS + station as usize;
     if kinds[at] != EXCLUSIVE {
-        return Answer::Copy;
+        return Err(Refusal::Copy);
     }
     if !free {
-        return Answer::Locked;
+        return Err(Refusal::Locked);
     }
     kinds[at] = SHARE;
-    Answer::Done(0)
+    Ok(0)
 }
 
 // 10 DEMOTE: a free exclusive copy becomes share.
@@ -52,10 +52,10 @@ pub fn demote(
         ≡ demote (tables firsts.now ls kinds.old vs ns rt rk rv gs up.now) free series station }
 {
     if (firsts.len() < SERIES) | (kinds.len() < PLACES) | (up.len() < STATIONS) {
-        return Answer::Short;
+        return Err(Refusal::Short);
     }
     if bad_copy(series, station) {
-        return Answer::BadEvent;
+        return Err(Refusal::BadEvent);
     }
     demote_in(firsts, kinds, up, free, series, station)
 }
@@ -86,23 +86,23 @@ fn drop_in(
         ≡ drop_in (tables firsts.now ls kinds.old vs ns rt rk rv gs up.now) free series station }
 {
     if firsts[series as usize] == 0 {
-        return Answer::None;
+        return Err(Refusal::None);
     }
     if up[station as usize] != 1 {
-        return Answer::Down;
+        return Err(Refusal::Down);
     }
     let at = series as usize * STATIONS + station as usize;
     if kinds[at] != SHARE {
-        return Answer::Copy;
+        return Err(Refusal::Copy);
     }
     if !free {
-        return Answer::Locked;
+        return Err(Refusal::Locked);
     }
     if !other_share(kinds, series, station) {
-        return Answer::Others;
+        return Err(Refusal::Others);
     }
     kinds[at] = VOID;
-    Answer::Done(0)
+    Ok(0)
 }
 
 // 12 DROP: a free share copy, not the only one, becomes void.
@@ -118,10 +118,10 @@ pub fn drop(
         ≡ drop (tables firsts.now ls kinds.old vs ns rt rk rv gs up.now) free series station }
 {
     if (firsts.len() < SERIES) | (kinds.len() < PLACES) | (up.len() < STATIONS) {
-        return Answer::Short;
+        return Err(Refusal::Short);
     }
     if bad_copy(series, station) {
-        return Answer::BadEvent;
+        return Err(Refusal::BadEvent);
     }
     drop_in(firsts, kinds, up, free, series, station)
 }
@@ -165,23 +165,23 @@ fn promote_in(
         ≡ promote_in (tables firsts.now ls kinds.old vs sent.now relto.now relkind.now rv received.now up.now) free series station }
 {
     if firsts[series as usize] == 0 {
-        return Answer::None;
+        return Err(Refusal::None);
     }
     if up[station as usize] != 1 {
-        return Answer::Down;
+        return Err(Refusal::Down);
     }
     let at = series as usize * STATIONS + station as usize;
     if kinds[at] != SHARE {
-        return Answer::Copy;
+        return Err(Refusal::Copy);
     }
     if !free {
-        return Answer::Locked;
+        return Err(Refusal::Locked);
     }
     if other_share(kinds, series, station) | under_way(sent, relto, relkind, received, series) {
-        return Answer::Others;
+        return Err(Refusal::Others);
     }
     kinds[at] = EXCLUSIVE;
-    Answer::Done(0)
+    Ok(0)
 }
 
 // 13 PROMOTE: a free share copy, the only share of the series, becomes exclusive.
@@ -208,10 +208,10 @@ pub fn promote(
         | (received.len() < RECEIVED)
         | (up.len() < STATIONS)
     {
-        return Answer::Short;
+        return Err(Refusal::Short);
     }
     if bad_copy(series, station) {
-        return Answer::BadEvent;
+        return Err(Refusal::BadEvent);
     }
     promote_in(
         firsts, kinds, sent, relto, relkind, received, up, free, series, station,

@@ -6,7 +6,8 @@ ghost use Rattle.copies.specs.Calls.{outcome, send, send_in, send_share, share_i
 
 use crate::checks::{bad_message, bad_transfer};
 use words::{
-    Answer, EXCLUSIVE, GREATEST_SENT, PLACES, RECEIVED, SERIES, SHARE, STATIONS, Serial, VOID,
+    Answer, EXCLUSIVE, GREATEST_SENT, PLACES, RECEIVED, Refusal, SERIES, SHARE, STATIONS, Serial,
+    VOID,
 };
 
 // SEND where refusals 1 and 3 are not given.
@@ -29,31 +30,31 @@ fn send_in(
         ≡ send_in (tables firsts.now ls kinds.old values.now sent.old relto.old relkind.old relvalue.old gs up.now) free series from to }
 {
     if firsts[series as usize] == 0 {
-        return Answer::None;
+        return Err(Refusal::None);
     }
     if up[from as usize] != 1 {
-        return Answer::Down;
+        return Err(Refusal::Down);
     }
     let at = series as usize * STATIONS + from as usize;
     if kinds[at] != EXCLUSIVE {
-        return Answer::Copy;
+        return Err(Refusal::Copy);
     }
     if !free {
-        return Answer::Locked;
+        return Err(Refusal::Locked);
     }
     if relkind[at] != 0 {
-        return Answer::Wait;
+        return Err(Refusal::Wait);
     }
     let number = sent[at];
     if GREATEST_SENT <= number {
-        return Answer::Spent;
+        return Err(Refusal::Spent);
     }
     kinds[at] = VOID;
     sent[at] = number + 1;
     relto[at] = to;
     relkind[at] = EXCLUSIVE;
     relvalue[at] = values[at];
-    Answer::Done(number + 1)
+    Ok(number + 1)
 }
 
 // 9 SEND: a free exclusive copy becomes void, and a Release of kind 2 takes its value.
@@ -83,10 +84,10 @@ pub fn send(
         | (relvalue.len() < PLACES)
         | (up.len() < STATIONS)
     {
-        return Answer::Short;
+        return Err(Refusal::Short);
     }
     if bad_transfer(series, from, to) {
-        return Answer::BadEvent;
+        return Err(Refusal::BadEvent);
     }
     send_in(
         firsts, kinds, values, sent, relto, relkind, relvalue, up, free, series, from, to,
@@ -112,27 +113,27 @@ fn share_in(
         ≡ share_in (tables firsts.now ls kinds.now values.now sent.old relto.old relkind.old relvalue.old gs up.now) series from to }
 {
     if firsts[series as usize] == 0 {
-        return Answer::None;
+        return Err(Refusal::None);
     }
     if up[from as usize] != 1 {
-        return Answer::Down;
+        return Err(Refusal::Down);
     }
     let at = series as usize * STATIONS + from as usize;
     if kinds[at] != SHARE {
-        return Answer::Copy;
+        return Err(Refusal::Copy);
     }
     if relkind[at] != 0 {
-        return Answer::Wait;
+        return Err(Refusal::Wait);
     }
     let number = sent[at];
     if GREATEST_SENT <= number {
-        return Answer::Spent;
+        return Err(Refusal::Spent);
     }
     sent[at] = number + 1;
     relto[at] = to;
     relkind[at] = SHARE;
     relvalue[at] = values[at];
-    Answer::Done(number + 1)
+    Ok(number + 1)
 }
 
 // 11 SHARE: from keeps its share copy, and a Release of kind 1 takes its value.
@@ -161,10 +162,10 @@ pub fn share(
         | (relvalue.len() < PLACES)
         | (up.len() < STATIONS)
     {
-        return Answer::Short;
+        return Err(Refusal::Short);
     }
     if bad_transfer(series, from, to) {
-        return Answer::BadEvent;
+        return Err(Refusal::BadEvent);
     }
     share_in(
         firsts, kinds, values, sent, relto, relkind, relvalue, up, series, from, to,
@@ -192,29 +193,29 @@ fn grant_in(
         ≡ grant_in (tables firsts.now ls kinds.old values.old sent.now relto.now relkind.now relvalue.now received.old up.now) series from to number }
 {
     if firsts[series as usize] == 0 {
-        return Answer::None;
+        return Err(Refusal::None);
     }
     if up[to as usize] != 1 {
-        return Answer::Down;
+        return Err(Refusal::Down);
     }
     let source = series as usize * STATIONS + from as usize;
     let at = series as usize * STATIONS + to as usize;
     if number <= received[at * STATIONS + from as usize] {
-        return Answer::Done(0);
+        return Ok(0);
     }
     if relkind[source] == 0 {
-        return Answer::NoMessage;
+        return Err(Refusal::NoMessage);
     }
     if relto[source] != to {
-        return Answer::NoMessage;
+        return Err(Refusal::NoMessage);
     }
     if sent[source] != number {
-        return Answer::NoMessage;
+        return Err(Refusal::NoMessage);
     }
     kinds[at] = relkind[source];
     values[at] = relvalue[source];
     received[at * STATIONS + from as usize] = number;
-    Answer::Done(1)
+    Ok(1)
 }
 
 // 14 GRANT: the transfer arrives, once; a repeat is known by its number alone.
@@ -246,10 +247,10 @@ pub fn grant(
         | (received.len() < RECEIVED)
         | (up.len() < STATIONS)
     {
-        return Answer::Short;
+        return Err(Refusal::Short);
     }
     if bad_message(series, from, to, number) {
-        return Answer::BadEvent;
+        return Err(Refusal::BadEvent);
     }
     grant_in(
         firsts, kinds, values, sent, relto, relkind, relvalue, received, up, series, from, to,
@@ -276,31 +277,31 @@ fn ack_in(
         ≡ ack_in (tables firsts.now ls ks vs sent.now relto.old relkind.old relvalue.old received.now up.now) series from to number }
 {
     if firsts[series as usize] == 0 {
-        return Answer::None;
+        return Err(Refusal::None);
     }
     if up[from as usize] != 1 {
-        return Answer::Down;
+        return Err(Refusal::Down);
     }
     let at = series as usize * STATIONS + from as usize;
     if sent[at] < number {
-        return Answer::NoMessage;
+        return Err(Refusal::NoMessage);
     }
     if relkind[at] == 0 {
-        return Answer::Done(0);
+        return Ok(0);
     }
     if relto[at] != to {
-        return Answer::Done(0);
+        return Ok(0);
     }
     if sent[at] != number {
-        return Answer::Done(0);
+        return Ok(0);
     }
     if received[(series as usize * STATIONS + to as usize) * STATIONS + from as usize] < number {
-        return Answer::NoMessage;
+        return Err(Refusal::NoMessage);
     }
     relto[at] = 0;
     relkind[at] = 0;
     relvalue[at] = 0;
-    Answer::Done(1)
+    Ok(1)
 }
 
 // 15 ACK: of a delivered transfer its standing Release is deleted; anything late is ignored (X7).
@@ -328,10 +329,10 @@ pub fn ack(
         | (received.len() < RECEIVED)
         | (up.len() < STATIONS)
     {
-        return Answer::Short;
+        return Err(Refusal::Short);
     }
     if bad_message(series, from, to, number) {
-        return Answer::BadEvent;
+        return Err(Refusal::BadEvent);
     }
     ack_in(
         firsts, sent, relto, relkind, relvalue, received, up, series, from, to, number,

@@ -6,7 +6,7 @@ use mathlib.Core.Bool.{false}
 use mathlib.Core.List.{List}
 use lib.Dec.{eqb, ltb}
 use borrow.Author.Tests.{le-ltb, lt-leb, ne_eqb}
-use Rattle.words.specs.declared.Answer.TheVariants.{Short, BadEvent, Copy, Down, Locked, NoMessage, None, Others, Spent, Taken, Up, Wait}
+use Rattle.words.specs.declared.Refusal.TheVariants.{Short, BadEvent, Copy, Down, Locked, NoMessage, None, Others, Spent, Taken, Up, Wait}
 use Rattle.words.specs.Numbers.{station_count, series_count, place_count, greatest_serial, greatest_sent}
 use Rattle.words.specs.Tests.{◌or◌}
 use Rattle.words.proofs.Laws.{or_false}

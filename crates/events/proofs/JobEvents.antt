@@ -7,8 +7,8 @@ use mathlib.Core.List.{List}
 use lib.Dec.{eqb, ltb, leb}
 use lib.ListN.{length}
 use borrow.Author.Tests.{le-ltb, lt-leb, ne_eqb, eqb-true, not-false}
-use Rattle.words.specs.declared.Answer.{Answer}
-use Rattle.words.specs.declared.Answer.TheVariants.{Short, NotWhole, BadEvent, Taken, None, Down, Held, Full, Copy, Locked, NoLock, Drawn, Range}
+use Rattle.words.specs.Answers.{Answer}
+use Rattle.words.specs.declared.Refusal.TheVariants.{Short, NotWhole, BadEvent, Taken, None, Down, Held, Full, Copy, Locked, NoLock, Drawn, Range}
 use Rattle.words.specs.Numbers.{station_count, series_count, job_count, place_count, out_count, greatest_serial, share, exclusive}
 use Rattle.words.specs.Tests.{non, ◌or◌}
 use Rattle.words.proofs.Laws.{neither}

@@ -1,4 +1,5 @@
 -- The holders of a series: a law for each way out of `holders_in` and of `holders`. Assumes nothing.
+use Rattle.std.specs.Prelude.{Err}
 use Prim.Native.Nat.{ℕ, ◌≤◌}
 use mathlib.Core.Path.{◌≡◌, sym, ◌∙◌}
 use mathlib.Core.Bool.{Bool, true, false, not}
@@ -6,7 +7,7 @@ use mathlib.Core.List.{List, []}
 use lib.Dec.{eqb, leb}
 use lib.ListN.{length}
 use borrow.Author.Tests.{leb-false, le-ltb}
-use Rattle.words.specs.declared.Answer.TheVariants.{Short as SHORT, NotWhole, BadEvent, None}
+use Rattle.words.specs.declared.Refusal.TheVariants.{Short as SHORT, NotWhole, BadEvent, None}
 use Rattle.words.specs.declared.Found.{Found}
 use Rattle.words.specs.declared.Found.TheVariants.{Short, Broken, Whole}
 use Rattle.words.specs.Numbers.{station_count, series_count, place_count}
@@ -33,7 +34,7 @@ set_right : (r : Series) (set : ℕ) → set ≡ holder_set r → by_set set ≡
 set_right r set e = rw (e, ones_set station_count (held r), zeros_set station_count (held r))
 
 -- refusal 3
-pub there_bad : (r : Series) (s : ℕ) (h : Holders) → leb series_count s ≡ true → h ≡ no_holders BadEvent → h ≡ holders_there r s
+pub there_bad : (r : Series) (s : ℕ) (h : Holders) → leb series_count s ≡ true → h ≡ no_holders (Err BadEvent) → h ≡ holders_there r s
 unfolding holders_there
 there_bad r s h l e = rw l e
 
@@ -47,7 +48,7 @@ module _ (firsts kinds : List ℕ) (s : ℕ) (h : Holders) (o : Bool) (l : serie
   there = series_in firsts [] kinds [] [] [] [] [] [] s
 
   -- refusal 5
-  pub there_closed : not o ≡ true → h ≡ no_holders None → h ≡ holders_there there s
+  pub there_closed : not o ≡ true → h ≡ no_holders (Err None) → h ≡ holders_there there s
   unfolding holders_there
   there_closed flag e =
       let shut = non_call_true o _ (read_open (tables firsts [] kinds [] [] [] [] [] [] []) s o l (leb-false _ _ small) said) flag in
@@ -70,12 +71,12 @@ module _ (t : Copies) (bs : List Job) (found : Found) (e : found ≡ check (plan
 
   module _ (s : ℕ) (h : Holders) where
     -- refusal 1
-    pub holders_short : found ≡ Short → h ≡ no_holders SHORT → h ≡ holders_of (plant t bs) s
+    pub holders_short : found ≡ Short → h ≡ no_holders (Err SHORT) → h ≡ holders_of (plant t bs) s
     unfolding holders_of
     holders_short w q = rw (check_short (plant t bs) (sym e ∙ w)) q
 
     -- refusal 2
-    pub holders_broken : (k : ℕ) → found ≡ Broken k → h ≡ no_holders NotWhole → h ≡ holders_of (plant t bs) s
+    pub holders_broken : (k : ℕ) → found ≡ Broken k → h ≡ no_holders (Err NotWhole) → h ≡ holders_of (plant t bs) s
     unfolding holders_of non
     holders_broken k w q = let broken = check_broken (plant t bs) k (sym e ∙ w) in rw (broken.0, broken.1) q
 

@@ -1,11 +1,12 @@
 -- The ways out of the step: a law for each. Assumes nothing.
+use Rattle.std.specs.Prelude.{Err}
 use Prim.Native.Nat.{ℕ, ◌≤◌, ◌<◌}
 use mathlib.Core.Path.{◌≡◌, sym, ◌∙◌}
 use mathlib.Core.Bool.{false}
 use mathlib.Core.List.{List}
 use lib.ListN.{length}
 use borrow.Author.Tests.{lt-ltb, le-ltb}
-use Rattle.words.specs.declared.Answer.TheVariants.{Short, NotWhole}
+use Rattle.words.specs.declared.Refusal.TheVariants.{Short, NotWhole}
 use Rattle.words.specs.declared.Found.{Found}
 use Rattle.words.specs.declared.Found.TheVariants.{Short as FoundShort, Broken, Whole}
 use Rattle.words.specs.Numbers.{out_count}
@@ -32,12 +33,12 @@ module _ (t : Copies) (bs : List Job) (out : List ℕ) (e : Event) where
   lent = plant t bs
 
   -- the output is short
-  pub way_room : length out < out_count → left (stepped Short bs) t out ≡ step_of lent out e
+  pub way_room : length out < out_count → left (stepped (Err Short) bs) t out ≡ step_of lent out e
   unfolding step_of effect judged SHORT shown
   way_room l = rw (lt-ltb _ _ l, or_true (short_tables lent))
 
   -- a table is short
-  pub way_short : (found : Found) → found ≡ check lent → found ≡ FoundShort → left (stepped Short bs) t out ≡ step_of lent out e
+  pub way_short : (found : Found) → found ≡ check lent → found ≡ FoundShort → left (stepped (Err Short) bs) t out ≡ step_of lent out e
   unfolding step_of effect judged SHORT shown ◌or◌
   way_short found p h = rw (check_short lent (sym p ∙ h))
 
@@ -48,7 +49,7 @@ module _ (t : Copies) (bs : List Job) (out : List ℕ) (e : Event) where
 
   -- NOT WHOLE
   pub way_broken : (rule : ℕ) (found : Found) → out_count ≤ length out → found ≡ check lent → found ≡ Broken rule
-      → left (stepped NotWhole bs) t out ≡ step_of lent out e
+      → left (stepped (Err NotWhole) bs) t out ≡ step_of lent out e
   unfolding step_of effect judged NOT_WHOLE non shown
   way_broken rule found l p h =
       let broken = check_broken lent rule (sym p ∙ h) in

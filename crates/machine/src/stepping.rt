@@ -9,7 +9,7 @@ use crate::whole::check;
 use events::step_unchecked;
 use jobs::{Job, Stepped};
 use rulebook::Event;
-use words::{Answer, Found, JOBS, OUTPUT, Serial};
+use words::{Found, JOBS, OUTPUT, Refusal, Serial};
 
 // THE STEP: an event, the tables, the output. SHORT, NOT WHOLE, and then the listed order.
 pub fn step(
@@ -32,7 +32,7 @@ pub fn step(
 {
     if out.len() < OUTPUT {
         return Stepped {
-            answer: Answer::Short,
+            answer: Err(Refusal::Short),
             jobs,
         };
     }
@@ -41,11 +41,11 @@ pub fn step(
     );
     match found {
         Found::Short => Stepped {
-            answer: Answer::Short,
+            answer: Err(Refusal::Short),
             jobs,
         },
         Found::Broken(_) => Stepped {
-            answer: Answer::NotWhole,
+            answer: Err(Refusal::NotWhole),
             jobs,
         },
         Found::Whole => step_unchecked(
