@@ -6,7 +6,6 @@ use mathlib.Core.Bool.{Bool, true, false, cond}
 use mathlib.Core.List.{List}
 use lib.ListN.{drop}
 use Rattle.words.specs.declared.Refusal.{Refusal}
-use Rattle.words.specs.Answers.{Answer}
 use Rattle.words.specs.Tests.{◌or◌, refuse_if}
 use Rattle.jobs.specs.Draws.{shown}
 use Rattle.rulebook.specs.declared.Event.{Event}
@@ -24,14 +23,14 @@ pub record Seen (A : Type 0) (p : Plant) (out : List ℕ) : Type 0 where
 module _ {A : Type 0} {p : Plant} {out : List ℕ} (s : Seen A p out) where
   -- a call's refusal is the rulebook's, by a test that comes to the same, and what follows it is what follows there
   pub alike : (a : Refusal) (b b' : Bool) (y : A) (v : Effect) → b ≡ b' → (b ≡ false → s.leaves y ≡ outcome out v)
-      → s.leaves (refuse_if b (s.refusal a) y) ≡ outcome out (cond b' (refused a p) v)
+      → s.leaves (refuse_if b (s.refusal a) y) ≡ outcome out (cond b' (refused (Err a) p) v)
   unfolding refuse_if
   alike a true b' y v e k = rw (← e) (s.keeps a)
   alike a false b' y v e k = rw (← e) (k refl)
 
   -- by the same test
   pub same : (a : Refusal) (b : Bool) (y : A) (v : Effect) → (b ≡ false → s.leaves y ≡ outcome out v)
-      → s.leaves (refuse_if b (s.refusal a) y) ≡ outcome out (cond b (refused a p) v)
+      → s.leaves (refuse_if b (s.refusal a) y) ≡ outcome out (cond b (refused (Err a) p) v)
   same a b y v k = alike a b b y v refl k
 
   -- a call's refusal that is not given, and that the rulebook doesn't ask there

@@ -1,6 +1,5 @@
 -- How long lines can be, and that there is room for them. Assumes nothing.
-use Rattle.std.specs.Prelude.{Err}
-use Rattle.std.specs.Prelude.{Ok}
+use Rattle.std.specs.Prelude.{Ok, Err}
 use Prim.Native.Nat.{ℕ, zero, suc, ◌+◌, ◌-◌, ◌*◌, ◌^◌, ◌≤◌, ◌<◌, min}
 use mathlib.Core.Path.{◌≡◌, refl, ap, sym, ◌∙◌}
 use mathlib.Core.Bool.{Bool, true, false}
@@ -11,7 +10,7 @@ use lib.ListN.{length, get_or, take, length-take}
 use lib.Seq.{sets, take_all, take-take, take-length}
 use borrow.Author.Tests.{leb-true, leb-false}
 use Rattle.words.specs.declared.Refusal.{Refusal}
-use Rattle.words.specs.Answers.{Answer, code_of, value_of}
+use Rattle.words.specs.Answers.{Answer, code_of, number_of, value_of}
 use Rattle.words.specs.declared.Refusal.TheVariants.{Short, NotWhole, BadEvent, Taken, None, Down, Up, Held, Full}
 use Rattle.words.specs.declared.Refusal.TheVariants.{Copy, Locked, NoLock, Drawn, Range, Wait, Spent, Others, NoMessage}
 use Rattle.words.specs.Numbers.{out_count}
