@@ -1,8 +1,7 @@
 -- What the exported calls give back and leave: the public calls' answers as numbers.
 -- Assumes nothing.
 use Rattle.std.specs.Prelude.{ℕ, List}
-use Rattle.words.specs.declared.Answer.{Answer}
-use Rattle.words.specs.Answers.{code_of, value_of}
+use Rattle.words.specs.Answers.{Answer, code_of, value_of}
 use Rattle.rulebook.specs.declared.Holders.{Holders}
 use Rattle.rulebook.specs.Tables.{Plant}
 use Rattle.rulebook.specs.Steps.{Outcome, Effect}

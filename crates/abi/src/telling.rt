@@ -4,15 +4,15 @@ ghost use Rattle.abi.specs.Calls.{said_of, holders_said_of};
 
 use crate::{HoldersSaid, Said};
 use rulebook::Holders;
-use words::Answer;
+use words::{Answer, code, value};
 
 // An answer by its number and its value.
 pub fn said(answer: Answer) -> Said
     ensures { result ≡ said_of answer }
 {
     Said {
-        code: answer.code(),
-        value: answer.value(),
+        code: code(answer),
+        value: value(answer),
     }
 }
 
@@ -22,7 +22,7 @@ pub fn holders_said(holders: Holders) -> HoldersSaid
 {
     let answer = holders.answer;
     HoldersSaid {
-        code: answer.code(),
+        code: code(answer),
         set: holders.set as u32,
         count: holders.count,
         lowest: holders.lowest,

@@ -2,9 +2,10 @@
 -- of the checks and its accepted step. A call asks SHORT only of the columns lent to it; whether the tables are whole is not asked here.
 -- Where an event needs to know that no job locks the copy, the caller says so: `free`.
 -- Assumes nothing.
-use Rattle.std.specs.Prelude.{ℕ, ◌+◌, Bool, cond, List, [], eqb, ltb, leb, length, get_or}
-use Rattle.words.specs.declared.Answer.{Answer}
-use Rattle.words.specs.declared.Answer.TheVariants.{Done, Short, BadEvent, Taken, None, Down, Up, Copy, Locked, Range, Wait, Spent, Others, NoMessage}
+use Rattle.std.specs.Prelude.{ℕ, ◌+◌, Bool, cond, List, [], eqb, ltb, leb, length, get_or, Ok, Err}
+use Rattle.words.specs.declared.Refusal.{Refusal}
+use Rattle.words.specs.Answers.{Answer}
+use Rattle.words.specs.declared.Refusal.TheVariants.{Short, BadEvent, Taken, None, Down, Up, Copy, Locked, Range, Wait, Spent, Others, NoMessage}
 use Rattle.words.specs.Numbers.{station_count, series_count, place_count, received_count, greatest_serial, greatest_sent, share, exclusive}
 use Rattle.words.specs.Tests.{non, ◌or◌, refuse_if}
 use Rattle.copies.specs.Tables.{Copies, series_in, series_at, is_open, is_up, kind, value, sent_count, stands}
@@ -19,13 +20,13 @@ pub record Outcome : Type 0 where
 abbrev pub outcome : Answer → Copies → Outcome
 outcome a t = record { answer = a; copies = t }
 
--- refused with this answer, and nothing changed, where the test holds; else what follows
-abbrev pub refuse : Copies → Answer → Bool → Outcome → Outcome
-refuse t a test next = refuse_if test (outcome a t) next
+-- refused so, and nothing changed, where the test holds; else what follows
+abbrev pub refuse : Copies → Refusal → Bool → Outcome → Outcome
+refuse t r test next = refuse_if test (outcome (Err r) t) next
 
 -- accepted, with value v
 abbrev pub done : ℕ → Copies → Outcome
-done v t = outcome (Done v) t
+done v t = outcome (Ok v) t
 
 -- ---- what refusals 1 and 3 ask
 -- a column has fewer entries than its stated size

@@ -6,7 +6,7 @@ ghost use Rattle.copies.specs.Calls.{outcome, bad_copy, short_opener, open_serie
 
 use crate::Lent;
 use crate::checks::{bad_copy, bad_opening};
-use words::{Answer, EXCLUSIVE, GREATEST_SERIAL, PLACES, SERIES, STATIONS, Serial, VOID};
+use words::{Answer, EXCLUSIVE, GREATEST_SERIAL, PLACES, Refusal, SERIES, STATIONS, Serial, VOID};
 
 // OPEN where refusals 1 and 3 are not given.
 #[tactic(auto, using(crate::proofs::Guards::guards), unfolding(crate::specs::Steps::opened, crate::specs::Calls::bad_copy, crate::specs::Calls::short_opener, crate::specs::Calls::open_in))]
@@ -18,10 +18,10 @@ fn open_in(columns: &mut Lent<'_>, series: u32, first: Serial, last: Serial, sta
         ≡ open_in (lent columns.old) series first last station }
 {
     if columns.firsts[series as usize] != 0 {
-        return Answer::Taken;
+        return Err(Refusal::Taken);
     }
     if columns.up[station as usize] != 1 {
-        return Answer::Down;
+        return Err(Refusal::Down);
     }
     columns.firsts[series as usize] = first;
     columns.lasts[series as usize] = last;
@@ -29,7 +29,7 @@ fn open_in(columns: &mut Lent<'_>, series: u32, first: Serial, last: Serial, sta
     columns.kinds[row..row + STATIONS].fill(VOID);
     columns.kinds[row + station as usize] = EXCLUSIVE;
     columns.values[row..row + STATIONS].fill(first);
-    Answer::Done(0)
+    Ok(0)
 }
 
 // 1 OPEN: exclusive at the station, void elsewhere, all values the first number.
@@ -51,10 +51,10 @@ pub fn open_series(
         | (columns.values.len() < PLACES)
         | (columns.up.len() < STATIONS)
     {
-        return Answer::Short;
+        return Err(Refusal::Short);
     }
     if bad_opening(series, first, last, station) {
-        return Answer::BadEvent;
+        return Err(Refusal::BadEvent);
     }
     open_in(columns, series, first, last, station)
 }
@@ -81,13 +81,13 @@ fn raise_in(columns: &mut Lent<'_>, series: u32, station: u32, count: Serial) ->
     let at = series as usize * STATIONS + station as usize;
     let value = columns.values[at];
     if is_beyond(columns.lasts[series as usize], value, count) {
-        return Answer::Range;
+        return Err(Refusal::Range);
     }
     if GREATEST_SERIAL as u64 + 1 < value as u64 + count as u64 {
-        return Answer::Range;
+        return Err(Refusal::Range);
     }
     columns.values[at] = value + count;
-    Answer::Done(0)
+    Ok(0)
 }
 
 // COMMIT's share: a drawn count is added to the copy's value, unless the sum would pass last + 1 or the greatest last number + 1.
@@ -98,10 +98,10 @@ pub fn raise(columns: &mut Lent<'_>, series: u32, station: u32, count: Serial) -
         ≡ raise (lent columns.old) series station count }
 {
     if (columns.lasts.len() < SERIES) | (columns.values.len() < PLACES) {
-        return Answer::Short;
+        return Err(Refusal::Short);
     }
     if bad_copy(series, station) {
-        return Answer::BadEvent;
+        return Err(Refusal::BadEvent);
     }
     raise_in(columns, series, station, count)
 }

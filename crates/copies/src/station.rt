@@ -9,7 +9,7 @@ ghost use Rattle.copies.specs.Calls.{outcome, crash, restart, restart_in};
 
 use crate::Lent;
 use crate::read::if_held;
-use words::{Answer, PLACES, SERIES, STATIONS};
+use words::{Answer, PLACES, Refusal, SERIES, STATIONS};
 
 // 16 CRASH, the station's mark alone: closing its jobs is the upper layer's part.
 pub fn crash(columns: &mut Lent<'_>, station: u32) -> Answer
@@ -18,16 +18,16 @@ pub fn crash(columns: &mut Lent<'_>, station: u32) -> Answer
         ≡ crash (lent columns.old) station }
 {
     if columns.up.len() < STATIONS {
-        return Answer::Short;
+        return Err(Refusal::Short);
     }
     if STATIONS <= station as usize {
-        return Answer::BadEvent;
+        return Err(Refusal::BadEvent);
     }
     if columns.up[station as usize] != 1 {
-        return Answer::Down;
+        return Err(Refusal::Down);
     }
     columns.up[station as usize] = 0;
-    Answer::Done(0)
+    Ok(0)
 }
 
 // How many copies of the station are not void.
@@ -51,10 +51,10 @@ fn restart_in(columns: &mut Lent<'_>, station: u32) -> Answer
         ≡ restart_in (lent columns.old) station }
 {
     if columns.up[station as usize] == 1 {
-        return Answer::Up;
+        return Err(Refusal::Up);
     }
     columns.up[station as usize] = 1;
-    Answer::Done(held_count(columns, station))
+    Ok(held_count(columns, station))
 }
 
 // 17 RESTART: the station is up; the value is the number of its copies that are not void.
@@ -64,10 +64,10 @@ pub fn restart(columns: &mut Lent<'_>, station: u32) -> Answer
         ≡ restart (lent columns.old) station }
 {
     if (columns.kinds.len() < PLACES) | (columns.up.len() < STATIONS) {
-        return Answer::Short;
+        return Err(Refusal::Short);
     }
     if STATIONS <= station as usize {
-        return Answer::BadEvent;
+        return Err(Refusal::BadEvent);
     }
     restart_in(columns, station)
 }

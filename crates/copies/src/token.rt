@@ -9,7 +9,7 @@ ghost use Rattle.copies.specs.Calls.{outcome, bad_copy, short_holder, short_prom
 use crate::Lent;
 use crate::checks::bad_copy;
 use crate::read::is_undelivered;
-use words::{Answer, EXCLUSIVE, PLACES, RECEIVED, SERIES, SHARE, STATIONS, VOID};
+use words::{Answer, EXCLUSIVE, PLACES, RECEIVED, Refusal, SERIES, SHARE, STATIONS, VOID};
 
 // Whether a column of DEMOTE or DROP is short.
 #[tactic(auto, using(words::proofs::Laws::flag_or), unfolding(crate::specs::Calls::short_holder))]
@@ -28,20 +28,20 @@ fn demote_in(columns: &mut Lent<'_>, free: bool, series: u32, station: u32) -> A
         ≡ demote_in (lent columns.old) free series station }
 {
     if columns.firsts[series as usize] == 0 {
-        return Answer::None;
+        return Err(Refusal::None);
     }
     if columns.up[station as usize] != 1 {
-        return Answer::Down;
+        return Err(Refusal::Down);
     }
     let at = series as usize * STATIONS + station as usize;
     if columns.kinds[at] != EXCLUSIVE {
-        return Answer::Copy;
+        return Err(Refusal::Copy);
     }
     if !free {
-        return Answer::Locked;
+        return Err(Refusal::Locked);
     }
     columns.kinds[at] = SHARE;
-    Answer::Done(0)
+    Ok(0)
 }
 
 // 10 DEMOTE: a free exclusive copy becomes share.
@@ -52,10 +52,10 @@ pub fn demote(columns: &mut Lent<'_>, free: bool, series: u32, station: u32) -> 
         ≡ demote (lent columns.old) free series station }
 {
     if short_holder(columns) {
-        return Answer::Short;
+        return Err(Refusal::Short);
     }
     if bad_copy(series, station) {
-        return Answer::BadEvent;
+        return Err(Refusal::BadEvent);
     }
     demote_in(columns, free, series, station)
 }
@@ -84,23 +84,23 @@ fn drop_in(columns: &mut Lent<'_>, free: bool, series: u32, station: u32) -> Ans
         ≡ drop_in (lent columns.old) free series station }
 {
     if columns.firsts[series as usize] == 0 {
-        return Answer::None;
+        return Err(Refusal::None);
     }
     if columns.up[station as usize] != 1 {
-        return Answer::Down;
+        return Err(Refusal::Down);
     }
     let at = series as usize * STATIONS + station as usize;
     if columns.kinds[at] != SHARE {
-        return Answer::Copy;
+        return Err(Refusal::Copy);
     }
     if !free {
-        return Answer::Locked;
+        return Err(Refusal::Locked);
     }
     if !other_share(columns, series, station) {
-        return Answer::Others;
+        return Err(Refusal::Others);
     }
     columns.kinds[at] = VOID;
-    Answer::Done(0)
+    Ok(0)
 }
 
 // 12 DROP: a free share copy, not the only one, becomes void.
@@ -111,10 +111,10 @@ pub fn drop(columns: &mut Lent<'_>, free: bool, series: u32, station: u32) -> An
         ≡ drop (lent columns.old) free series station }
 {
     if short_holder(columns) {
-        return Answer::Short;
+        return Err(Refusal::Short);
     }
     if bad_copy(series, station) {
-        return Answer::BadEvent;
+        return Err(Refusal::BadEvent);
     }
     drop_in(columns, free, series, station)
 }
@@ -168,23 +168,23 @@ fn promote_in(columns: &mut Lent<'_>, free: bool, series: u32, station: u32) -> 
         ≡ promote_in (lent columns.old) free series station }
 {
     if columns.firsts[series as usize] == 0 {
-        return Answer::None;
+        return Err(Refusal::None);
     }
     if columns.up[station as usize] != 1 {
-        return Answer::Down;
+        return Err(Refusal::Down);
     }
     let at = series as usize * STATIONS + station as usize;
     if columns.kinds[at] != SHARE {
-        return Answer::Copy;
+        return Err(Refusal::Copy);
     }
     if !free {
-        return Answer::Locked;
+        return Err(Refusal::Locked);
     }
     if other_share(columns, series, station) | under_way(columns, series) {
-        return Answer::Others;
+        return Err(Refusal::Others);
     }
     columns.kinds[at] = EXCLUSIVE;
-    Answer::Done(0)
+    Ok(0)
 }
 
 // 13 PROMOTE: a free share copy, the only share of the series, becomes exclusive.
@@ -195,10 +195,10 @@ pub fn promote(columns: &mut Lent<'_>, free: bool, series: u32, station: u32) ->
         ≡ promote (lent columns.old) free series station }
 {
     if short_promoter(columns) {
-        return Answer::Short;
+        return Err(Refusal::Short);
     }
     if bad_copy(series, station) {
-        return Answer::BadEvent;
+        return Err(Refusal::BadEvent);
     }
     promote_in(columns, free, series, station)
 }

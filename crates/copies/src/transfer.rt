@@ -8,7 +8,9 @@ ghost use Rattle.copies.specs.Calls.{outcome, bad_transfer, bad_message, short_s
 
 use crate::Lent;
 use crate::checks::{bad_message, bad_transfer};
-use words::{Answer, EXCLUSIVE, GREATEST_SENT, PLACES, RECEIVED, SERIES, SHARE, STATIONS, VOID};
+use words::{
+    Answer, EXCLUSIVE, GREATEST_SENT, PLACES, RECEIVED, Refusal, SERIES, SHARE, STATIONS, VOID,
+};
 
 // Whether a column of SEND or SHARE is short.
 #[tactic(auto, using(words::proofs::Laws::flag_or), unfolding(crate::specs::Calls::short_sender))]
@@ -34,31 +36,31 @@ fn send_in(columns: &mut Lent<'_>, free: bool, series: u32, from: u32, to: u32) 
         ≡ send_in (lent columns.old) free series from to }
 {
     if columns.firsts[series as usize] == 0 {
-        return Answer::None;
+        return Err(Refusal::None);
     }
     if columns.up[from as usize] != 1 {
-        return Answer::Down;
+        return Err(Refusal::Down);
     }
     let at = series as usize * STATIONS + from as usize;
     if columns.kinds[at] != EXCLUSIVE {
-        return Answer::Copy;
+        return Err(Refusal::Copy);
     }
     if !free {
-        return Answer::Locked;
+        return Err(Refusal::Locked);
     }
     if columns.relkind[at] != 0 {
-        return Answer::Wait;
+        return Err(Refusal::Wait);
     }
     let number = columns.sent[at];
     if GREATEST_SENT <= number {
-        return Answer::Spent;
+        return Err(Refusal::Spent);
     }
     columns.kinds[at] = VOID;
     columns.sent[at] = number + 1;
     columns.relto[at] = to;
     columns.relkind[at] = EXCLUSIVE;
     columns.relvalue[at] = columns.values[at];
-    Answer::Done(number + 1)
+    Ok(number + 1)
 }
 
 // 9 SEND: a free exclusive copy becomes void, and a Release of kind 2 takes its value.
@@ -69,10 +71,10 @@ pub fn send(columns: &mut Lent<'_>, free: bool, series: u32, from: u32, to: u32)
         ≡ send (lent columns.old) free series from to }
 {
     if short_sender(columns) {
-        return Answer::Short;
+        return Err(Refusal::Short);
     }
     if bad_transfer(series, from, to) {
-        return Answer::BadEvent;
+        return Err(Refusal::BadEvent);
     }
     send_in(columns, free, series, from, to)
 }
@@ -86,27 +88,27 @@ fn share_in(columns: &mut Lent<'_>, series: u32, from: u32, to: u32) -> Answer
         ≡ share_in (lent columns.old) series from to }
 {
     if columns.firsts[series as usize] == 0 {
-        return Answer::None;
+        return Err(Refusal::None);
     }
     if columns.up[from as usize] != 1 {
-        return Answer::Down;
+        return Err(Refusal::Down);
     }
     let at = series as usize * STATIONS + from as usize;
     if columns.kinds[at] != SHARE {
-        return Answer::Copy;
+        return Err(Refusal::Copy);
     }
     if columns.relkind[at] != 0 {
-        return Answer::Wait;
+        return Err(Refusal::Wait);
     }
     let number = columns.sent[at];
     if GREATEST_SENT <= number {
-        return Answer::Spent;
+        return Err(Refusal::Spent);
     }
     columns.sent[at] = number + 1;
     columns.relto[at] = to;
     columns.relkind[at] = SHARE;
     columns.relvalue[at] = columns.values[at];
-    Answer::Done(number + 1)
+    Ok(number + 1)
 }
 
 // 11 SHARE: from keeps its share copy, and a Release of kind 1 takes its value.
@@ -117,10 +119,10 @@ pub fn share(columns: &mut Lent<'_>, series: u32, from: u32, to: u32) -> Answer
         ≡ send_share (lent columns.old) series from to }
 {
     if short_sender(columns) {
-        return Answer::Short;
+        return Err(Refusal::Short);
     }
     if bad_transfer(series, from, to) {
-        return Answer::BadEvent;
+        return Err(Refusal::BadEvent);
     }
     share_in(columns, series, from, to)
 }
@@ -163,23 +165,23 @@ fn grant_in(columns: &mut Lent<'_>, series: u32, from: u32, to: u32, number: u32
         ≡ grant_in (lent columns.old) series from to number }
 {
     if columns.firsts[series as usize] == 0 {
-        return Answer::None;
+        return Err(Refusal::None);
     }
     if columns.up[to as usize] != 1 {
-        return Answer::Down;
+        return Err(Refusal::Down);
     }
     let source = series as usize * STATIONS + from as usize;
     let at = series as usize * STATIONS + to as usize;
     if number <= columns.received[at * STATIONS + from as usize] {
-        return Answer::Done(0);
+        return Ok(0);
     }
     if !matches(columns, series, from, to, number) {
-        return Answer::NoMessage;
+        return Err(Refusal::NoMessage);
     }
     columns.kinds[at] = columns.relkind[source];
     columns.values[at] = columns.relvalue[source];
     columns.received[at * STATIONS + from as usize] = number;
-    Answer::Done(1)
+    Ok(1)
 }
 
 // 14 GRANT: the transfer arrives, once; a repeat is known by its number alone.
@@ -190,10 +192,10 @@ pub fn grant(columns: &mut Lent<'_>, series: u32, from: u32, to: u32, number: u3
         ≡ grant (lent columns.old) series from to number }
 {
     if short_receiver(columns) {
-        return Answer::Short;
+        return Err(Refusal::Short);
     }
     if bad_message(series, from, to, number) {
-        return Answer::BadEvent;
+        return Err(Refusal::BadEvent);
     }
     grant_in(columns, series, from, to, number)
 }
@@ -221,26 +223,26 @@ fn ack_in(columns: &mut Lent<'_>, series: u32, from: u32, to: u32, number: u32) 
         ≡ ack_in (lent columns.old) series from to number }
 {
     if columns.firsts[series as usize] == 0 {
-        return Answer::None;
+        return Err(Refusal::None);
     }
     if columns.up[from as usize] != 1 {
-        return Answer::Down;
+        return Err(Refusal::Down);
     }
     let at = series as usize * STATIONS + from as usize;
     if columns.sent[at] < number {
-        return Answer::NoMessage;
+        return Err(Refusal::NoMessage);
     }
     if !matches(columns, series, from, to, number) {
-        return Answer::Done(0);
+        return Ok(0);
     }
     let receiver = series as usize * STATIONS + to as usize;
     if columns.received[receiver * STATIONS + from as usize] < number {
-        return Answer::NoMessage;
+        return Err(Refusal::NoMessage);
     }
     columns.relto[at] = 0;
     columns.relkind[at] = 0;
     columns.relvalue[at] = 0;
-    Answer::Done(1)
+    Ok(1)
 }
 
 // 15 ACK: of a delivered transfer its standing Release is deleted; anything late is ignored (X7).
@@ -251,10 +253,10 @@ pub fn ack(columns: &mut Lent<'_>, series: u32, from: u32, to: u32, number: u32)
         ≡ ack (lent columns.old) series from to number }
 {
     if short_source(columns) {
-        return Answer::Short;
+        return Err(Refusal::Short);
     }
     if bad_message(series, from, to, number) {
-        return Answer::BadEvent;
+        return Err(Refusal::BadEvent);
     }
     ack_in(columns, series, from, to, number)
 }

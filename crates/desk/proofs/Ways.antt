@@ -1,5 +1,6 @@
 -- The ways out of `judge` and `answer`: what a line came to and what was written are what the definitions say.
 -- Assumes nothing.
+use Rattle.std.specs.Prelude.{Err}
 use Prim.Native.Nat.{ℕ, ◌+◌, ◌*◌, ◌≤◌, ◌<◌}
 use mathlib.Core.Path.{◌≡◌, refl, ap, sym, ◌∙◌}
 use mathlib.Core.Bool.{Bool, true, false, cond}
@@ -9,7 +10,7 @@ use lib.Dec.{eqb}
 use lib.ListN.{length, take}
 use lib.Seq.{sets}
 use borrow.Author.Tests.{eq-eqb, ne_eqb, le-leb, lt-leb, lt-ltb, le-ltb}
-use Rattle.words.specs.declared.Answer.TheVariants.{BadEvent}
+use Rattle.words.specs.declared.Refusal.TheVariants.{BadEvent}
 use Rattle.words.specs.Answers.{value_of}
 use Rattle.copies.specs.Tables.{Copies}
 use Rattle.jobs.specs.declared.Job.{Job}
@@ -63,7 +64,7 @@ judged_good line r e p out s t row n f g h k = rw (sym f ∙ g) (heard_step_lem 
 -- the line said none
 pub judged_bad : (line : List ℕ) (r : Parsed) (t : Copies) (jobs : List Job) (out : List ℕ)
     → r ≡ event_line line → r ≡ Bad
-    → judged (record { answer = BadEvent; shown = 0; jobs = jobs }) t out ≡ heard (plant t jobs) out line
+    → judged (record { answer = Err BadEvent; shown = 0; jobs = jobs }) t out ≡ heard (plant t jobs) out line
 unfolding heard
 judged_bad line r t jobs out f g = rw (sym f ∙ g)
 

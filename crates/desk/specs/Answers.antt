@@ -1,7 +1,7 @@
 -- The answers to a text of event lines: those of the rulebook's run, line by line ("Around the step" in 01).
 -- Assumes nothing.
-use Rattle.std.specs.Prelude.{ℕ, ◌+◌, cond, List, [], ◌∷◌, ◌++◌, eqb, replicate}
-use Rattle.words.specs.declared.Answer.TheVariants.{BadEvent}
+use Rattle.std.specs.Prelude.{ℕ, ◌+◌, cond, List, [], ◌∷◌, ◌++◌, eqb, replicate, Err}
+use Rattle.words.specs.declared.Refusal.TheVariants.{BadEvent}
 use Rattle.words.specs.Numbers.{out_count}
 use Rattle.digits.specs.Bytes.{LF}
 use Rattle.rulebook.specs.declared.Event.{Event}
@@ -39,7 +39,7 @@ events_of (l ∷ ls) = saying_first (event_line l) (events_of ls)
 
 -- a bad line gives code 3
 abbrev pub bad_reply : Reply
-bad_reply = reply BadEvent []
+bad_reply = reply (Err BadEvent) []
 
 -- the reply to a line, before those to the lines after it: an event takes the next one of the run's, a bad line takes none of them
 abbrev pub reply_first : Parsed → List Reply → (List Reply → List Reply) → List Reply

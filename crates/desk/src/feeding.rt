@@ -13,7 +13,7 @@ use digits::Wrote;
 use jobs::Job;
 use lines::{ANSWER_ROOM, Found, Parsed, event_line, line_at, write_answer};
 use rulebook::COMMIT;
-use words::{Answer, JOBS, Serial};
+use words::{Answer, JOBS, Refusal, Serial, value};
 
 // What a line came to: the answer, how many numbers of the output it shows, and the jobs.
 #[derive(Clone, Copy)]
@@ -35,7 +35,7 @@ fn shown(kind: u32, answer: Answer) -> usize
     ensures { result ≡ cond (eqb kind COMMIT) (3 * value_of answer) 0 }
 {
     if kind == COMMIT {
-        return 3 * (answer.value() as usize);
+        return 3 * (value(answer) as usize);
     }
     0
 }
@@ -75,7 +75,7 @@ fn judge(
             }
         }
         Parsed::Bad => Judged {
-            answer: Answer::BadEvent,
+            answer: Err(Refusal::BadEvent),
             shown: 0,
             jobs,
         },

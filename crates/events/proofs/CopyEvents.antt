@@ -1,4 +1,5 @@
 -- In whole tables a call of the lower layer is the rulebook's step: kind by kind, its refusals in their order. Assumes nothing.
+use Rattle.std.specs.Prelude.{Err}
 use Prim.Native.Nat.{ℕ, ◌≤◌, ◌<◌}
 use native.Mathlib.Omega.{arith}
 use mathlib.Core.Path.{◌≡◌, refl, sym}
@@ -6,7 +7,7 @@ use mathlib.Core.Bool.{false}
 use mathlib.Core.List.{List}
 use lib.Dec.{eqb, ltb}
 use borrow.Author.Tests.{le-ltb, lt-leb, ne_eqb}
-use Rattle.words.specs.declared.Answer.TheVariants.{Short, BadEvent, Copy, Down, Locked, NoMessage, None, Others, Spent, Taken, Up, Wait}
+use Rattle.words.specs.declared.Refusal.TheVariants.{Short, BadEvent, Copy, Down, Locked, NoMessage, None, Others, Spent, Taken, Up, Wait}
 use Rattle.words.specs.Numbers.{station_count, series_count, place_count, greatest_serial, greatest_sent}
 use Rattle.words.specs.Tests.{◌or◌}
 use Rattle.words.proofs.Laws.{or_false}
@@ -86,7 +87,7 @@ module _ (p : Plant) (out : List ℕ) where
   -- what a call of the lower layer leaves
   abbrev lower : Seen Outcome p out
   unfolding judges
-  lower = record { leaves = of_copies p out; refusal = λ a. outcome a p.copies; keeps = λ a. refl }
+  lower = record { leaves = of_copies p out; refusal = λ r. outcome (Err r) p.copies; keeps = λ r. refl }
 
   -- ---- the calls, kind by kind
   -- OPEN

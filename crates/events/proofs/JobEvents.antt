@@ -1,4 +1,5 @@
 -- In whole tables a call of the upper layer is the rulebook's step: kind by kind, its refusals in their order. Assumes nothing.
+use Rattle.std.specs.Prelude.{Err}
 use Prim.Native.Nat.{ℕ, ◌+◌, ◌≤◌, ◌<◌}
 use native.Mathlib.Omega.{arith}
 use mathlib.Core.Path.{◌≡◌, refl, ap}
@@ -7,8 +8,8 @@ use mathlib.Core.List.{List}
 use lib.Dec.{eqb, ltb, leb}
 use lib.ListN.{length}
 use borrow.Author.Tests.{le-ltb, lt-leb, ne_eqb, eqb-true, not-false}
-use Rattle.words.specs.declared.Answer.{Answer}
-use Rattle.words.specs.declared.Answer.TheVariants.{Short, NotWhole, BadEvent, Taken, None, Down, Held, Full, Copy, Locked, NoLock, Drawn, Range}
+use Rattle.words.specs.Answers.{Answer}
+use Rattle.words.specs.declared.Refusal.TheVariants.{Short, NotWhole, BadEvent, Taken, None, Down, Held, Full, Copy, Locked, NoLock, Drawn, Range}
 use Rattle.words.specs.Numbers.{station_count, series_count, job_count, place_count, out_count, greatest_serial, share, exclusive}
 use Rattle.words.specs.Tests.{non, ◌or◌}
 use Rattle.words.proofs.Laws.{neither}
@@ -83,18 +84,18 @@ module _ (p : Plant) (out : List ℕ) where
   -- what a call of the upper layer leaves
   abbrev pub upper : Seen jobs.Outcome p out
   unfolding judges
-  upper = record { leaves = of_jobs; refusal = λ a. jobs.refused p.copies p.jobs out a; keeps = λ a. refl }
+  upper = record { leaves = of_jobs; refusal = λ r. jobs.refused p.copies p.jobs out r; keeps = λ r. refl }
 
   -- one that changes slots alone
   abbrev pub slots : Seen Stepped p out
   unfolding judges
   slots =
-      record { leaves = λ r. of_jobs (jobs.outcome r p.copies out); refusal = λ a. jobs.stepped a p.jobs; keeps = λ a. refl }
+      record { leaves = λ r. of_jobs (jobs.outcome r p.copies out); refusal = λ r. jobs.stepped (Err r) p.jobs; keeps = λ r. refl }
 
   -- and one that changes nothing
   abbrev pub answers : Seen Answer p out
   unfolding judges
-  answers = record { leaves = λ a. slots.leaves (jobs.stepped a p.jobs); refusal = λ a. a; keeps = λ a. refl }
+  answers = record { leaves = λ a. slots.leaves (jobs.stepped a p.jobs); refusal = λ r. Err r; keeps = λ r. refl }
 
   -- the copy that a job locks is at its station (W1), so its kind is read
   same_copy : (k : ℕ) {e : Event} → Sound p out e → (j s : ℕ) → j < job_count → s < series_count

@@ -1,10 +1,11 @@
 -- A call's refusals beside the rulebook's: where the tests are the same, so are the outcomes. Assumes nothing.
+use Rattle.std.specs.Prelude.{Err}
 use Prim.Native.Nat.{ℕ}
 use mathlib.Core.Path.{◌≡◌, refl}
 use mathlib.Core.Bool.{Bool, true, false, cond}
 use mathlib.Core.List.{List}
 use lib.ListN.{drop}
-use Rattle.words.specs.declared.Answer.{Answer}
+use Rattle.words.specs.declared.Refusal.{Refusal}
 use Rattle.words.specs.Tests.{◌or◌, refuse_if}
 use Rattle.jobs.specs.Draws.{shown}
 use Rattle.rulebook.specs.declared.Event.{Event}
@@ -16,24 +17,24 @@ use Rattle.rulebook.specs.Steps.{Effect, Outcome, outcome, refused, judged, acce
 -- How the result of a call is seen: what it leaves of a plant and an output, and a refusal, which leaves both as they stood.
 pub record Seen (A : Type 0) (p : Plant) (out : List ℕ) : Type 0 where
   pub leaves : A → Outcome
-  pub refusal : Answer → A
-  pub keeps : (a : Answer) → leaves (refusal a) ≡ outcome out (refused a p)
+  pub refusal : Refusal → A
+  pub keeps : (r : Refusal) → leaves (refusal r) ≡ outcome out (refused (Err r) p)
 
 module _ {A : Type 0} {p : Plant} {out : List ℕ} (s : Seen A p out) where
   -- a call's refusal is the rulebook's, by a test that comes to the same, and what follows it is what follows there
-  pub alike : (a : Answer) (b b' : Bool) (y : A) (v : Effect) → b ≡ b' → (b ≡ false → s.leaves y ≡ outcome out v)
-      → s.leaves (refuse_if b (s.refusal a) y) ≡ outcome out (cond b' (refused a p) v)
+  pub alike : (a : Refusal) (b b' : Bool) (y : A) (v : Effect) → b ≡ b' → (b ≡ false → s.leaves y ≡ outcome out v)
+      → s.leaves (refuse_if b (s.refusal a) y) ≡ outcome out (cond b' (refused (Err a) p) v)
   unfolding refuse_if
   alike a true b' y v e k = rw (← e) (s.keeps a)
   alike a false b' y v e k = rw (← e) (k refl)
 
   -- by the same test
-  pub same : (a : Answer) (b : Bool) (y : A) (v : Effect) → (b ≡ false → s.leaves y ≡ outcome out v)
-      → s.leaves (refuse_if b (s.refusal a) y) ≡ outcome out (cond b (refused a p) v)
+  pub same : (a : Refusal) (b : Bool) (y : A) (v : Effect) → (b ≡ false → s.leaves y ≡ outcome out v)
+      → s.leaves (refuse_if b (s.refusal a) y) ≡ outcome out (cond b (refused (Err a) p) v)
   same a b y v k = alike a b b y v refl k
 
   -- a call's refusal that is not given, and that the rulebook doesn't ask there
-  pub pass : (a : Answer) (b : Bool) (y : A) (o : Outcome) → b ≡ false → s.leaves y ≡ o → s.leaves (refuse_if b (s.refusal a) y) ≡ o
+  pub pass : (a : Refusal) (b : Bool) (y : A) (o : Outcome) → b ≡ false → s.leaves y ≡ o → s.leaves (refuse_if b (s.refusal a) y) ≡ o
   unfolding refuse_if
   pass a b y o e k = rw e k
 

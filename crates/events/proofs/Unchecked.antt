@@ -1,4 +1,5 @@
 -- In whole tables the step without the check is the step of the rulebook. Assumes nothing.
+use Rattle.std.specs.Prelude.{Err}
 use Prim.Native.Nat.{ℕ, zero, suc, ◌+◌, ◌≤◌, ◌<◌}
 use native.Mathlib.Decide.{ℕ_discrete}
 use native.Mathlib.Omega.{arith}
@@ -6,7 +7,7 @@ use mathlib.Core.Path.{◌≡◌, refl, sym, subst, ◌∙◌}
 use mathlib.Core.Logic.{dite}
 use mathlib.Core.Bool.{Bool, true, false}
 use mathlib.Core.List.{List}
-use Rattle.words.specs.declared.Answer.TheVariants.{BadEvent}
+use Rattle.words.specs.declared.Refusal.TheVariants.{BadEvent}
 use Rattle.words.specs.Tests.{non, refuse_if}
 use Rattle.jobs.specs.Draws.{shown}
 use Rattle.rulebook.specs.declared.Event.{Event}
@@ -38,7 +39,7 @@ of_kind P k (suc n) i all l m =
 module _ (p : Plant) (out : List ℕ) where
   -- refused with 3
   abbrev bad : Outcome
-  bad = record { answer = BadEvent; plant = p; out = out }
+  bad = record { answer = Err BadEvent; plant = p; out = out }
 
   -- at kind k it is the rulebook's step
   abbrev SameAt : ℕ → Type 0

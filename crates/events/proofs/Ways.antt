@@ -1,12 +1,13 @@
 -- The ways out of the step without the check, and of its turn over one slot: a law for each. Assumes nothing.
+use Rattle.std.specs.Prelude.{Err}
 use Prim.Native.Nat.{ℕ, ◌<◌}
 use mathlib.Core.Path.{◌≡◌, refl, sym, ap, ◌∙◌}
 use mathlib.Core.Bool.{Bool, true, false, cond, ◌&&◌, ◌||◌, true≢false}
 use mathlib.Core.List.{List}
 use lib.Dec.{eqb, ltb}
 use borrow.Author.Tests.{eqb-true, lt-ltb}
-use Rattle.words.specs.declared.Answer.{Answer}
-use Rattle.words.specs.declared.Answer.TheVariants.{BadEvent}
+use Rattle.words.specs.Answers.{Answer}
+use Rattle.words.specs.declared.Refusal.TheVariants.{BadEvent}
 use Rattle.words.specs.Numbers.{job_count}
 use Rattle.words.specs.Tests.{refuse_if}
 use Rattle.copies.specs.Tables.{Copies}
@@ -33,7 +34,7 @@ module _ (t : Copies) (bs : List Job) (out : List ℕ) (e : Event) where
   -- ---- the turn over one slot, whose job is the one that stands there
   module _ (f : Bool) (job : Job) (same : job ≡ job_at bs (slot_of e)) (b : Bool) (p : b ≡ BAD_EVENT lent e) where
     -- BAD EVENT
-    pub way_bad : b ≡ true → left (jobs.turned bs (slot_of e) (jobs.turn BadEvent job)) t out ≡ unchecked_turn lent f out e
+    pub way_bad : b ≡ true → left (jobs.turned bs (slot_of e) (jobs.turn (Err BadEvent) job)) t out ≡ unchecked_turn lent f out e
     unfolding unchecked_turn refuse_if
     way_bad h = rw (kept_slot bs (slot_of e) job same, ← p, h)
 
@@ -137,6 +138,6 @@ module _ (t : Copies) (bs : List Job) (out : List ℕ) (e : Event) where
   step_crash r t' b p h k made = rw (← p, h, eqb-true e.kind CRASH k) (ap of_jobs made)
 
   -- or refused with 3
-  pub crash_bad : (b : Bool) → b ≡ BAD_EVENT lent e → b ≡ true → left (jobs.stepped BadEvent bs) t out ≡ unchecked_step lent out e
+  pub crash_bad : (b : Bool) → b ≡ BAD_EVENT lent e → b ≡ true → left (jobs.stepped (Err BadEvent) bs) t out ≡ unchecked_step lent out e
   unfolding unchecked_step refuse_if
   crash_bad b p h = rw (← p, h)

@@ -1,8 +1,8 @@
 -- The step without the whole check: what the calls of the two layers come to, in any tables. A call asks SHORT only of the columns lent to it.
 -- In whole tables this is the step of the rulebook (`SameInWhole`).
 -- Assumes nothing.
-use Rattle.std.specs.Prelude.{ℕ, ◌≡◌, Bool, true, false, cond, ◌&&◌, ◌||◌, List, eqb, ltb, leb}
-use Rattle.words.specs.declared.Answer.TheVariants.{BadEvent}
+use Rattle.std.specs.Prelude.{ℕ, ◌≡◌, Bool, true, false, cond, ◌&&◌, ◌||◌, List, eqb, ltb, leb, Err}
+use Rattle.words.specs.declared.Refusal.TheVariants.{BadEvent}
 use Rattle.words.specs.Numbers.{job_count}
 use Rattle.words.specs.Tests.{refuse_if}
 use Rattle.copies.specs.Tables.{Copies}
@@ -30,7 +30,7 @@ copy_event t free e =
     (cond (eqb e.kind PROMOTE) (copies.promote t free e.a e.b)
     (cond (eqb e.kind GRANT) (copies.grant t e.a e.b e.c e.d)
     (cond (eqb e.kind ACK) (copies.ack t e.a e.b e.c e.d)
-    (cond (eqb e.kind RESTART) (copies.restart t e.a) (copies.outcome BadEvent t)))))))))
+    (cond (eqb e.kind RESTART) (copies.restart t e.a) (copies.outcome (Err BadEvent) t)))))))))
 
 -- the slots' part of an event that changes nothing else
 abbrev slots_only : Copies → List ℕ → Stepped → jobs.Outcome
@@ -85,13 +85,13 @@ called p out e =
 
 -- THE STEP WITHOUT THE CHECK: BAD EVENT, or that call
 unfoldable pub unchecked_step : Plant → List ℕ → Event → Outcome
-unchecked_step p out e = refuse_if (BAD_EVENT p e) (record { answer = BadEvent; plant = p; out = out }) (called p out e)
+unchecked_step p out e = refuse_if (BAD_EVENT p e) (record { answer = Err BadEvent; plant = p; out = out }) (called p out e)
 
 -- the same over one slot, of any kind but CRASH, which closes many jobs and gets BAD EVENT here; `free` says, where the kind asks, that no job locks
 -- the copy
 unfoldable pub unchecked_turn : Plant → Bool → List ℕ → Event → Outcome
 unchecked_turn p free out e =
-    refuse_if (BAD_EVENT p e) (record { answer = BadEvent; plant = p; out = out })
+    refuse_if (BAD_EVENT p e) (record { answer = Err BadEvent; plant = p; out = out })
     (cond (takes_job e.kind && ltb e.a job_count) (of_jobs (job_turn p.copies p.jobs free out e)) (of_copies p out (copy_event p.copies free e)))
 
 -- THE STATEMENT: given whole tables, and room for the output, the same outcome as the step's.

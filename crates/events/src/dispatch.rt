@@ -17,7 +17,7 @@ use rulebook::{
     ABORT, ACK, BEGIN, COMMIT, CRASH, DEMOTE, DRAW, DROP, Event, GRANT, LOCKS, LOCKX, OPEN,
     PROMOTE, READ, RESTART, SEND, SHARE,
 };
-use words::{Answer, JOBS, Serial};
+use words::{Answer, JOBS, Refusal, Serial};
 
 // An event that no job takes part in; `free` says that no job locks the copy.
 fn copy_event(
@@ -62,7 +62,7 @@ fn copy_event(
             firsts, sent, relto, relkind, relvalue, received, up, a, b, c, d,
         ),
         RESTART => copies::restart(kinds, up, a),
-        _ => Answer::BadEvent,
+        _ => Err(Refusal::BadEvent),
     }
 }
 
@@ -97,7 +97,7 @@ fn job_event(
         COMMIT => jobs::commit(job, lasts, values, out, a),
         ABORT => jobs::abort(job, a),
         _ => Turn {
-            answer: Answer::BadEvent,
+            answer: Err(Refusal::BadEvent),
             job,
         },
     }
@@ -125,7 +125,7 @@ pub fn turn_unchecked(
         ≡ unchecked_turn (plant (tables firsts.old lasts.old kinds.old values.old sent.old relto.old relkind.old relvalue.old received.old up.old) bs) free out.old event }
 {
     if is_bad(event) {
-        let answer = Answer::BadEvent;
+        let answer = Err(Refusal::BadEvent);
         return Turn { answer, job };
     }
     if takes_job(event.kind) & ((event.a as usize) < JOBS) {
@@ -145,7 +145,7 @@ fn crash_event(jobs: [Job; JOBS], up: &mut [u32], event: Event) -> Stepped
     if !is_bad(event) {
         return jobs::crash(jobs, up, event.a);
     }
-    let answer = Answer::BadEvent;
+    let answer = Err(Refusal::BadEvent);
     Stepped { answer, jobs }
 }
 

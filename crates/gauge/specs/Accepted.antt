@@ -1,8 +1,7 @@
 -- How many events of a list are accepted, stepped one after another from the empty plant without the whole check.
 -- Assumes nothing.
 use Rattle.std.specs.Prelude.{ℕ, zero, suc, ◌+◌, ◌*◌, ◌/◌, Bool, List, eqb, length, get_or, replicate}
-use Rattle.words.specs.declared.Answer.{Answer}
-use Rattle.words.specs.Answers.{code_of}
+use Rattle.words.specs.Answers.{Answer, code_of}
 use Rattle.words.specs.Numbers.{out_count}
 use Rattle.words.specs.Tests.{one_if}
 use Rattle.rulebook.specs.declared.Event.{Event}

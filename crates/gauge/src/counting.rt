@@ -8,7 +8,7 @@ ghost use Rattle.gauge.specs.Accepted.{event_at, event_count, is_accepted, accep
 use events::{free_for, slot_of, step_unchecked, turn_unchecked};
 use jobs::Job;
 use rulebook::{CRASH, Event};
-use words::{Answer, JOBS, Serial};
+use words::{Answer, JOBS, Serial, code};
 
 // How many numbers make an event: its kind and its four fields.
 const EVENT_SIZE: usize = 5;
@@ -32,7 +32,7 @@ fn event_at(numbers: &[u32], i: usize) -> Event
 fn counts_for(answer: Answer) -> usize
     ensures { (result ≡ one_if (is_accepted answer)) × (result ≤ 1) }
 {
-    if answer.code() == 0 {
+    if code(answer) == 0 {
         return 1;
     }
     0

@@ -1,13 +1,13 @@
 -- CRASH in its two parts: where the lower layer's is refused so is the whole, and where it is done the station's jobs close.
 -- Assumes nothing.
+use Rattle.std.specs.Prelude.{Ok, Err}
 use Prim.Native.Nat.{ℕ}
 use mathlib.Core.Path.{◌≡◌, sym, ap, ◌∙◌}
 use mathlib.Core.Bool.{Bool, true, false}
 use mathlib.Core.List.{List}
 use native.Mathlib.Omega.{arith}
-use Rattle.words.specs.declared.Answer.{Answer}
-use Rattle.words.specs.declared.Answer.TheVariants.{Done, Short, BadEvent, Down}
-use Rattle.words.specs.Answers.{code_of}
+use Rattle.words.specs.Answers.{Answer, code_of}
+use Rattle.words.specs.declared.Refusal.TheVariants.{Short, BadEvent, Down}
 use Rattle.words.specs.Tests.{refuse_if}
 use Rattle.copies.specs.Tables.{Copies}
 use Rattle.copies.specs.Calls as lower
@@ -37,13 +37,13 @@ module _ (t left down : Copies) (bs : List Job) (out : List ℕ) (a : Answer) (c
   -- a code other than 0 is a refusal of both
   refusal : (x y z : Bool) (last : Outcome) → lower.outcome a left ≡ of_copies x y z → (code ≡ 0 → ⊥) → outcome (stepped a bs) left out ≡ of_both x y z last
   unfolding refuse_if
-  refusal true y z last e h = alike Short t e
-  refusal false true z last e h = alike BadEvent t e
-  refusal false false true last e h = alike Down t e
+  refusal true y z last e h = alike (Err Short) t e
+  refusal false true z last e h = alike (Err BadEvent) t e
+  refusal false false true last e h = alike (Err Down) t e
   refusal false false false last e h = absurd (h (said ∙ ap (λ (x : lower.Outcome). code_of x.answer) e))
 
   -- code 0 is given after all three
-  ending : (x y z : Bool) (v : ℕ) (jobs : List Job) → lower.outcome a left ≡ of_copies x y z → code ≡ 0 → outcome (stepped (Done v) jobs) left out ≡ of_both x y z (outcome (stepped (Done v) jobs) down out)
+  ending : (x y z : Bool) (v : ℕ) (jobs : List Job) → lower.outcome a left ≡ of_copies x y z → code ≡ 0 → outcome (stepped (Ok v) jobs) left out ≡ of_both x y z (outcome (stepped (Ok v) jobs) down out)
   unfolding refuse_if
   ending true y z v jobs e h = absurd (let no : 0 ≡ 1 = sym h ∙ said ∙ ap (λ (x : lower.Outcome). code_of x.answer) e in omega arith)
   ending false true z v jobs e h = absurd (let no : 0 ≡ 3 = sym h ∙ said ∙ ap (λ (x : lower.Outcome). code_of x.answer) e in omega arith)
@@ -57,6 +57,6 @@ module _ (t left : Copies) (bs : List Job) (out : List ℕ) (n : ℕ) (a : Answe
   crash_refused e said h = refusal t left _ bs out a code said _ _ _ _ e h
 
   -- it is done
-  pub crash_done : (closed : Closed) → lower.outcome a left ≡ lower.crash t n → code ≡ code_of a → code ≡ 0 → closed ≡ record { jobs = closed_at n bs; count = count_at n bs } → outcome (stepped (Done closed.count) closed.jobs) left out ≡ crash t bs out n
+  pub crash_done : (closed : Closed) → lower.outcome a left ≡ lower.crash t n → code ≡ code_of a → code ≡ 0 → closed ≡ record { jobs = closed_at n bs; count = count_at n bs } → outcome (stepped (Ok closed.count) closed.jobs) left out ≡ crash t bs out n
   unfolding lower.crash crash
   crash_done closed e said h shut = rw shut (ending t left _ bs out a code said _ _ _ _ _ e h)

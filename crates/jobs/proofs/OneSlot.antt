@@ -5,7 +5,7 @@ use mathlib.Core.Path.{◌≡◌}
 use mathlib.Core.List.{List}
 use lib.ListN.{set}
 use lib.Seq.{set-get_or}
-use Rattle.words.specs.declared.Answer.{Answer}
+use Rattle.words.specs.Answers.{Answer}
 use Rattle.jobs.specs.declared.Job.{Job}
 use Rattle.jobs.specs.declared.Turn.{Turn}
 use Rattle.jobs.specs.Slots.{job_at}

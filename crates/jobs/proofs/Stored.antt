@@ -1,5 +1,6 @@
 -- COMMIT: where all that a job has drawn fits, storing its lock places one by one comes to its draws committed and shown.
 -- Assumes nothing.
+use Rattle.std.specs.Prelude.{Ok}
 use Prim.Native.Nat.{ℕ, zero, suc, ◌+◌, ◌*◌, ◌≤◌, ◌<◌}
 use native.Mathlib.Nat.{zero-add, add-zero}
 use native.Mathlib.Numerals.{add-one, add-two}
@@ -12,8 +13,7 @@ use mathlib.Core.List.{List, [], ◌∷◌}
 use lib.ListN.{get_or, set, length, length-set}
 use lib.Seq.{sets, get_or-set_other}
 use borrow.Author.Tests.{eq-eqb, ne_eqb, le-ltb}
-use Rattle.words.specs.declared.Answer.{Answer}
-use Rattle.words.specs.declared.Answer.TheVariants.{Done}
+use Rattle.words.specs.Answers.{Answer}
 use Rattle.words.specs.Numbers.{lock_count}
 use Rattle.words.specs.Tests.{non, ◌and◌, ◌or◌, refuse_if}
 use Rattle.words.proofs.Laws.{all_true}
@@ -205,6 +205,6 @@ stored_whole b t out four fit =
     apart i k le lt d e = differs_earlier b i k (at i le d).1 lt (at k (omega arith) e).0.1
 
 -- COMMIT accepted: with the job's draws stored its slot is closed
-pub commit_stored : (bs : List Job) (j : ℕ) (b b' : Job) (t t' : Copies) (out out' : List ℕ) (r : ℕ) → b' ≡ no_job → length b.locks ≡ lock_count → fits t.lasts t.values b ≡ true → store r t' out' ≡ store_first b lock_count (store 0 t out) → outcome (turned bs j (turn (Done r) b')) t' out' ≡ commits t bs out j (draws_of t b)
+pub commit_stored : (bs : List Job) (j : ℕ) (b b' : Job) (t t' : Copies) (out out' : List ℕ) (r : ℕ) → b' ≡ no_job → length b.locks ≡ lock_count → fits t.lasts t.values b ≡ true → store r t' out' ≡ store_first b lock_count (store 0 t out) → outcome (turned bs j (turn (Ok r) b')) t' out' ≡ commits t bs out j (draws_of t b)
 commit_stored bs j b b' t t' out out' r e four fit p =
-    rw e (ap (λ (x : Store). outcome (stepped (Done x.count) (set bs j no_job)) x.copies x.out) (p ∙ stored_whole b t out four fit))
+    rw e (ap (λ (x : Store). outcome (stepped (Ok x.count) (set bs j no_job)) x.copies x.out) (p ∙ stored_whole b t out four fit))

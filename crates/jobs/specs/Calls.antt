@@ -2,10 +2,11 @@
 -- and its accepted step. A call asks SHORT only of the columns lent to it. Whether the tables are whole is not asked; where the numbers of
 -- a READ or a COMMIT don't fit, as they do in whole tables, the refusal is NOT WHOLE.
 -- Assumes nothing.
-use Rattle.std.specs.Prelude.{ℕ, ◌+◌, Bool, true, List, eqb, ltb, leb, set, length}
+use Rattle.std.specs.Prelude.{ℕ, ◌+◌, Bool, true, List, eqb, ltb, leb, set, length, Ok, Err}
 use Rattle.std.proofs.lemmas.List.Edits.{sets}
-use Rattle.words.specs.declared.Answer.{Answer}
-use Rattle.words.specs.declared.Answer.TheVariants.{Done, Short, NotWhole, BadEvent, Taken, None, Down, Held, Full, Copy, Locked, NoLock, Drawn, Range}
+use Rattle.words.specs.declared.Refusal.{Refusal}
+use Rattle.words.specs.Answers.{Answer}
+use Rattle.words.specs.declared.Refusal.TheVariants.{Short, NotWhole, BadEvent, Taken, None, Down, Held, Full, Copy, Locked, NoLock, Drawn, Range}
 use Rattle.words.specs.Numbers.{station_count, series_count, job_count, place_count, out_count, greatest_serial, share, exclusive}
 use Rattle.words.specs.Tests.{non, ◌and◌, ◌or◌, refuse_if}
 use Rattle.copies.specs.Tables.{Copies, series_at, is_open, is_up}
@@ -30,13 +31,13 @@ turn a b = record { answer = a; job = b }
 abbrev pub turned : List Job → ℕ → Turn → Stepped
 turned bs j r = stepped r.answer (set bs j r.job)
 
--- refused with this answer, and the slots as they stood, where the test holds; else what follows
-abbrev pub refuse : List Job → Answer → Bool → Stepped → Stepped
-refuse bs a test next = refuse_if test (stepped a bs) next
+-- refused so, and the slots as they stood, where the test holds; else what follows
+abbrev pub refuse : List Job → Refusal → Bool → Stepped → Stepped
+refuse bs r test next = refuse_if test (stepped (Err r) bs) next
 
 -- accepted with value 0: slot j holds the job
 abbrev pub stored : List Job → ℕ → Job → Stepped
-stored bs j b = stepped (Done 0) (set bs j b)
+stored bs j b = stepped (Ok 0) (set bs j b)
 
 -- the named series or job isn't open
 abbrev pub not_open : Copies → Job → ℕ → Bool
@@ -103,16 +104,16 @@ abort bs j =
 -- READ where refusals 1 and 3 are not given
 unfoldable pub read_in : Copies → Job → ℕ → Answer
 read_in t b s =
-    refuse_if (not_open t b s) None
-    (refuse_if (non (locks_series b s)) NoLock
-    (refuse_if (ltb (greatest_serial + 1) (entry_there t.values s b.station + (lock_on b s).drawn)) NotWhole
-    (Done (entry_there t.values s b.station + (lock_on b s).drawn))))
+    refuse_if (not_open t b s) (Err None)
+    (refuse_if (non (locks_series b s)) (Err NoLock)
+    (refuse_if (ltb (greatest_serial + 1) (entry_there t.values s b.station + (lock_on b s).drawn)) (Err NotWhole)
+    (Ok (entry_there t.values s b.station + (lock_on b s).drawn))))
 
 -- 6 READ
 unfoldable pub read : Copies → List Job → ℕ → ℕ → Answer
 read t bs j s =
-    refuse_if (lacks series_count t.firsts or lacks place_count t.values) Short
-    (refuse_if (leb job_count j or leb series_count s) BadEvent
+    refuse_if (lacks series_count t.firsts or lacks place_count t.values) (Err Short)
+    (refuse_if (leb job_count j or leb series_count s) (Err BadEvent)
     (read_in t (job_at bs j) s))
 
 -- ---- calls that change more than slots
@@ -127,13 +128,13 @@ abbrev pub outcome : Stepped → Copies → List ℕ → Outcome
 outcome r t out = record { stepped = r; copies = t; out = out }
 
 -- refused, and nothing changed
-abbrev pub refused : Copies → List Job → List ℕ → Answer → Outcome
-refused t bs out a = outcome (stepped a bs) t out
+abbrev pub refused : Copies → List Job → List ℕ → Refusal → Outcome
+refused t bs out r = outcome (stepped (Err r) bs) t out
 
 -- the draws are committed and shown, and slot j is closed
 abbrev pub commits : Copies → List Job → List ℕ → ℕ → List Draw → Outcome
 commits t bs out j ds =
-    outcome (stepped (Done (length ds)) (set bs j no_job)) (committed t ds) (sets out 0 (shown ds))
+    outcome (stepped (Ok (length ds)) (set bs j no_job)) (committed t ds) (sets out 0 (shown ds))
 
 -- COMMIT where refusals 1 and 3 are not given
 unfoldable pub commit_in : Copies → List Job → List ℕ → ℕ → Outcome
@@ -155,4 +156,4 @@ crash t bs out n =
     refuse_if (lacks station_count t.up) (refused t bs out Short)
     (refuse_if (leb station_count n) (refused t bs out BadEvent)
     (refuse_if (non (is_up t n)) (refused t bs out Down)
-    (outcome (stepped (Done (count_at n bs)) (closed_at n bs)) (marked t n 0) out)))
+    (outcome (stepped (Ok (count_at n bs)) (closed_at n bs)) (marked t n 0) out)))

@@ -1,7 +1,7 @@
 -- The promise of each call of the layer allows one result ("What the contracts are held to" in 01), whatever its definition makes of the tables.
 -- Assumes nothing.
 use Rattle.std.specs.Prelude.{ℕ, ◌≡◌, List}
-use Rattle.words.specs.declared.Answer.{Answer}
+use Rattle.words.specs.Answers.{Answer}
 use Rattle.words.specs.Results.{OneResult}
 use Rattle.copies.specs.Tables.{Copies}
 use Rattle.jobs.specs.declared.Job.{Job}

@@ -12,7 +12,7 @@ use crate::turns::kept;
 use crate::walk::differs;
 use crate::{Job, Lock, Turn};
 use copies::{beyond, raise, value};
-use words::{Answer, GREATEST_SERIAL, JOBS, LOCKS, OUTPUT, PLACES, SERIES, Serial};
+use words::{GREATEST_SERIAL, JOBS, LOCKS, OUTPUT, PLACES, Refusal, SERIES, Serial};
 
 // Whether what place i has drawn can be added to its copy's value: always so in whole tables.
 fn draw_fits(job: Job, lasts: &[Serial], values: &[Serial], i: usize) -> bool
@@ -63,7 +63,7 @@ fn store_one(
     out[3 * count] = lock.series;
     out[3 * count + 1] = first;
     out[3 * count + 2] = drawn;
-    raise(lasts, values, lock.series, station, drawn);
+    let _ = raise(lasts, values, lock.series, station, drawn);
     1
 }
 
@@ -87,15 +87,15 @@ fn commit_in(job: Job, lasts: &[Serial], values: &mut [Serial], out: &mut [Seria
         ≡ commit_in (tables fs lasts.now ks values.old ns rt rk rv gs us) bs out.old j }
 {
     if !job.is_open() {
-        return kept(job, Answer::None);
+        return kept(job, Err(Refusal::None));
     }
     if !fits(job, lasts, values) {
-        return kept(job, Answer::NotWhole);
+        return kept(job, Err(Refusal::NotWhole));
     }
     let count = store_all(job, lasts, values, out);
     let closed = job.close();
     Turn {
-        answer: Answer::Done(count as Serial),
+        answer: Ok(count as Serial),
         job: closed,
     }
 }
@@ -112,10 +112,10 @@ pub fn commit(
         ≡ commit (tables fs lasts.now ks values.old ns rt rk rv gs us) bs out.old slot }
 {
     if (lasts.len() < SERIES) | (values.len() < PLACES) | (out.len() < OUTPUT) {
-        return kept(job, Answer::Short);
+        return kept(job, Err(Refusal::Short));
     }
     if JOBS <= slot as usize {
-        return kept(job, Answer::BadEvent);
+        return kept(job, Err(Refusal::BadEvent));
     }
     commit_in(job, lasts, values, out)
 }

@@ -9,7 +9,7 @@ ghost use Rattle.jobs.specs.Calls.{turned, draw, draw_in, read, read_in};
 use crate::turns::{became, kept};
 use crate::{Job, Turn};
 use copies::{beyond, is_open, value};
-use words::{Answer, EXCLUSIVE, GREATEST_SERIAL, JOBS, PLACES, SERIES, Serial};
+use words::{Answer, EXCLUSIVE, GREATEST_SERIAL, JOBS, PLACES, Refusal, SERIES, Serial};
 
 // DRAW where refusals 1 and 3 are not given.
 fn draw_in(
@@ -24,17 +24,17 @@ fn draw_in(
     ensures { (ks ns rt rk rv gs us : List ℕ) (bs : List Job) (j : ℕ) → job ≡ job_at bs j → turned bs j result ≡ draw_in (tables firsts.now lasts.now ks values.now ns rt rk rv gs us) bs j series count }
 {
     if !is_open(firsts, series) | !job.is_open() {
-        return kept(job, Answer::None);
+        return kept(job, Err(Refusal::None));
     }
     let lock = job.lock_on(series);
     if !job.locks_series(series) | (lock.mode != EXCLUSIVE) {
-        return kept(job, Answer::NoLock);
+        return kept(job, Err(Refusal::NoLock));
     }
     if lock.drawn != 0 {
-        return kept(job, Answer::Drawn);
+        return kept(job, Err(Refusal::Drawn));
     }
     if beyond(lasts, values, series, job.station, count) {
-        return kept(job, Answer::Range);
+        return kept(job, Err(Refusal::Range));
     }
     became(job.note_draw(series, count))
 }
@@ -52,14 +52,14 @@ pub fn draw(
     ensures { (ks ns rt rk rv gs us : List ℕ) (bs : List Job) → job ≡ job_at bs slot → turned bs slot result ≡ draw (tables firsts.now lasts.now ks values.now ns rt rk rv gs us) bs slot series count }
 {
     if (firsts.len() < SERIES) | (lasts.len() < SERIES) | (values.len() < PLACES) {
-        return kept(job, Answer::Short);
+        return kept(job, Err(Refusal::Short));
     }
     if (JOBS <= slot as usize)
         | (SERIES <= series as usize)
         | (count == 0)
         | (GREATEST_SERIAL < count)
     {
-        return kept(job, Answer::BadEvent);
+        return kept(job, Err(Refusal::BadEvent));
     }
     draw_in(job, firsts, lasts, values, series, count)
 }
@@ -70,17 +70,17 @@ fn read_in(job: Job, firsts: &[Serial], values: &[Serial], series: u32) -> Answe
     ensures { (ls ks ns rt rk rv gs us : List ℕ) → result ≡ read_in (tables firsts.now ls ks values.now ns rt rk rv gs us) job series }
 {
     if !is_open(firsts, series) | !job.is_open() {
-        return Answer::None;
+        return Err(Refusal::None);
     }
     if !job.locks_series(series) {
-        return Answer::NoLock;
+        return Err(Refusal::NoLock);
     }
     let lock = job.lock_on(series);
     let next = value(values, series, job.station);
     if GREATEST_SERIAL as u64 + 1 < next as u64 + lock.drawn as u64 {
-        return Answer::NotWhole;
+        return Err(Refusal::NotWhole);
     }
-    Answer::Done(next + lock.drawn)
+    Ok(next + lock.drawn)
 }
 
 // 6 READ: the value of the station's copy and the job's own drawn count.
@@ -88,10 +88,10 @@ pub fn read(job: Job, firsts: &[Serial], values: &[Serial], slot: u32, series: u
     ensures { (ls ks ns rt rk rv gs us : List ℕ) (bs : List Job) → job ≡ job_at bs slot → result ≡ read (tables firsts.now ls ks values.now ns rt rk rv gs us) bs slot series }
 {
     if (firsts.len() < SERIES) | (values.len() < PLACES) {
-        return Answer::Short;
+        return Err(Refusal::Short);
     }
     if (JOBS <= slot as usize) | (SERIES <= series as usize) {
-        return Answer::BadEvent;
+        return Err(Refusal::BadEvent);
     }
     read_in(job, firsts, values, series)
 }

@@ -9,23 +9,23 @@ ghost use Rattle.jobs.specs.Calls.{turned, begin, lock_in, lockx, locks, abort};
 use crate::turns::{became, kept};
 use crate::{Job, Turn};
 use copies::{is_open, is_up, kind};
-use words::{Answer, EXCLUSIVE, JOBS, PLACES, SERIES, SHARE, STATIONS, Serial};
+use words::{EXCLUSIVE, JOBS, PLACES, Refusal, SERIES, SHARE, STATIONS, Serial};
 
 // 2 BEGIN: the job opens with no lock.
 pub fn begin(job: Job, up: &[u32], slot: u32, station: u32) -> Turn
     ensures { (fs ls ks vs ns rt rk rv gs : List ℕ) (bs : List Job) → job ≡ job_at bs slot → turned bs slot result ≡ begin (tables fs ls ks vs ns rt rk rv gs up.now) bs slot station }
 {
     if up.len() < STATIONS {
-        return kept(job, Answer::Short);
+        return kept(job, Err(Refusal::Short));
     }
     if (JOBS <= slot as usize) | (STATIONS <= station as usize) {
-        return kept(job, Answer::BadEvent);
+        return kept(job, Err(Refusal::BadEvent));
     }
     if job.is_open() {
-        return kept(job, Answer::Taken);
+        return kept(job, Err(Refusal::Taken));
     }
     if !is_up(up, station) {
-        return kept(job, Answer::Down);
+        return kept(job, Err(Refusal::Down));
     }
     became(Job::begun(station))
 }
@@ -36,19 +36,19 @@ fn lock_in(job: Job, firsts: &[Serial], kinds: &[u32], free: bool, series: u32, 
     ensures { (ls vs ns rt rk rv gs us : List ℕ) (bs : List Job) (j : ℕ) → job ≡ job_at bs j → turned bs j result ≡ lock_in (tables firsts.now ls kinds.now vs ns rt rk rv gs us) bs free j series mode }
 {
     if !is_open(firsts, series) | !job.is_open() {
-        return kept(job, Answer::None);
+        return kept(job, Err(Refusal::None));
     }
     if job.locks_series(series) {
-        return kept(job, Answer::Held);
+        return kept(job, Err(Refusal::Held));
     }
     if job.is_full() {
-        return kept(job, Answer::Full);
+        return kept(job, Err(Refusal::Full));
     }
     if kind(kinds, series, job.station) != mode {
-        return kept(job, Answer::Copy);
+        return kept(job, Err(Refusal::Copy));
     }
     if !free {
-        return kept(job, Answer::Locked);
+        return kept(job, Err(Refusal::Locked));
     }
     became(job.add_lock(series, mode))
 }
@@ -65,10 +65,10 @@ pub fn lock_exclusive(
     ensures { (ls vs ns rt rk rv gs us : List ℕ) (bs : List Job) → job ≡ job_at bs slot → turned bs slot result ≡ lockx (tables firsts.now ls kinds.now vs ns rt rk rv gs us) bs free slot series }
 {
     if (firsts.len() < SERIES) | (kinds.len() < PLACES) {
-        return kept(job, Answer::Short);
+        return kept(job, Err(Refusal::Short));
     }
     if (JOBS <= slot as usize) | (SERIES <= series as usize) {
-        return kept(job, Answer::BadEvent);
+        return kept(job, Err(Refusal::BadEvent));
     }
     lock_in(job, firsts, kinds, free, series, EXCLUSIVE)
 }
@@ -78,10 +78,10 @@ pub fn lock_share(job: Job, firsts: &[Serial], kinds: &[u32], slot: u32, series:
     ensures { (ls vs ns rt rk rv gs us : List ℕ) (bs : List Job) → job ≡ job_at bs slot → turned bs slot result ≡ locks (tables firsts.now ls kinds.now vs ns rt rk rv gs us) bs slot series }
 {
     if (firsts.len() < SERIES) | (kinds.len() < PLACES) {
-        return kept(job, Answer::Short);
+        return kept(job, Err(Refusal::Short));
     }
     if (JOBS <= slot as usize) | (SERIES <= series as usize) {
-        return kept(job, Answer::BadEvent);
+        return kept(job, Err(Refusal::BadEvent));
     }
     lock_in(job, firsts, kinds, true, series, SHARE)
 }
@@ -91,10 +91,10 @@ pub fn abort(job: Job, slot: u32) -> Turn
     ensures { (bs : List Job) → job ≡ job_at bs slot → turned bs slot result ≡ abort bs slot }
 {
     if JOBS <= slot as usize {
-        return kept(job, Answer::BadEvent);
+        return kept(job, Err(Refusal::BadEvent));
     }
     if !job.is_open() {
-        return kept(job, Answer::None);
+        return kept(job, Err(Refusal::None));
     }
     became(job.close())
 }

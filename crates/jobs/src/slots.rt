@@ -5,7 +5,7 @@ ghost use Rattle.jobs.specs.Slots.{free, closed_at, count_at};
 ghost use Rattle.jobs.specs.Calls.{outcome, crash};
 
 use crate::{Closed, Job, Stepped};
-use words::{Answer, JOBS};
+use words::{JOBS, code};
 
 // Whether no job locks the copy of a series at a station.
 pub fn is_free(jobs: [Job; JOBS], series: u32, station: u32) -> bool
@@ -41,13 +41,13 @@ pub fn crash(jobs: [Job; JOBS], up: &mut [u32], station: u32) -> Stepped
         ≡ crash (tables fs ls ks vs ns rt rk rv gs up.old) jobs out station }
 {
     let answer = copies::crash(up, station);
-    if answer.code() != 0 {
+    if code(answer) != 0 {
         return Stepped { answer, jobs };
     }
     let closed = close_station(jobs, station);
     let left = closed.jobs;
     Stepped {
-        answer: Answer::Done(closed.count),
+        answer: Ok(closed.count),
         jobs: left,
     }
 }

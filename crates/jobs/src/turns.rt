@@ -1,6 +1,5 @@
 // The two ways in which a call over one slot ends with its job: refused, or done with value 0.
 ghost use Rattle.std.specs.Prelude.{◌≡◌};
-ghost use Rattle.words.specs.declared.Answer.TheVariants.{Done};
 ghost use Rattle.jobs.specs.Calls.{turn};
 
 use crate::{Job, Turn};
@@ -15,10 +14,7 @@ pub fn kept(job: Job, answer: Answer) -> Turn
 
 // The slot holds this job, and the event is done with value 0.
 pub fn became(job: Job) -> Turn
-    ensures { result ≡ turn (Done 0) job }
+    ensures { result ≡ turn (Ok 0) job }
 {
-    Turn {
-        answer: Answer::Done(0),
-        job,
-    }
+    Turn { answer: Ok(0), job }
 }

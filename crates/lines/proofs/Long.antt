@@ -1,4 +1,5 @@
 -- How long lines can be, and that there is room for them. Assumes nothing.
+use Rattle.std.specs.Prelude.{Ok, Err}
 use Prim.Native.Nat.{ℕ, zero, suc, ◌+◌, ◌-◌, ◌*◌, ◌^◌, ◌≤◌, ◌<◌, min}
 use mathlib.Core.Path.{◌≡◌, refl, ap, sym, ◌∙◌}
 use mathlib.Core.Bool.{Bool, true, false}
@@ -8,10 +9,10 @@ use lib.Dec.{leb}
 use lib.ListN.{length, get_or, take, length-take}
 use lib.Seq.{sets, take_all, take-take, take-length}
 use borrow.Author.Tests.{leb-true, leb-false}
-use Rattle.words.specs.declared.Answer.{Answer}
-use Rattle.words.specs.declared.Answer.TheVariants.{Done, Short, NotWhole, BadEvent, Taken, None, Down, Up, Held, Full}
-use Rattle.words.specs.declared.Answer.TheVariants.{Copy, Locked, NoLock, Drawn, Range, Wait, Spent, Others, NoMessage}
-use Rattle.words.specs.Answers.{code_of, value_of}
+use Rattle.words.specs.declared.Refusal.{Refusal}
+use Rattle.words.specs.Answers.{Answer, code_of, number_of, value_of}
+use Rattle.words.specs.declared.Refusal.TheVariants.{Short, NotWhole, BadEvent, Taken, None, Down, Up, Held, Full}
+use Rattle.words.specs.declared.Refusal.TheVariants.{Copy, Locked, NoLock, Drawn, Range, Wait, Spent, Others, NoMessage}
 use Rattle.words.specs.Numbers.{out_count}
 use Rattle.digits.specs.declared.Wrote.TheVariants.{To, Full}
 use Rattle.digits.specs.Printing.{decimal, wrote_at, written_at}
@@ -50,26 +51,30 @@ ended_long (n ∷ ns) h =
     omega (arith, ended_length n ns, decimal_long 10 n (omega arith) (omega (arith, h 0)), ended_long ns (λ i. h (suc i)))
 
 -- no code has more than two digits
+number_most : (r : Refusal) → number_of r ≤ 18
+number_most Short = omega arith
+number_most NotWhole = omega arith
+number_most BadEvent = omega arith
+number_most Taken = omega arith
+number_most None = omega arith
+number_most Down = omega arith
+number_most Up = omega arith
+number_most Held = omega arith
+number_most Full = omega arith
+number_most Copy = omega arith
+number_most Locked = omega arith
+number_most NoLock = omega arith
+number_most Drawn = omega arith
+number_most Range = omega arith
+number_most Wait = omega arith
+number_most Spent = omega arith
+number_most Others = omega arith
+number_most NoMessage = omega arith
+
+-- so an answer's number is at most 18
 code_most : (a : Answer) → code_of a ≤ 18
-code_most (Done v) = omega arith
-code_most Short = omega arith
-code_most NotWhole = omega arith
-code_most BadEvent = omega arith
-code_most Taken = omega arith
-code_most None = omega arith
-code_most Down = omega arith
-code_most Up = omega arith
-code_most Held = omega arith
-code_most Full = omega arith
-code_most Copy = omega arith
-code_most Locked = omega arith
-code_most NoLock = omega arith
-code_most Drawn = omega arith
-code_most Range = omega arith
-code_most Wait = omega arith
-code_most Spent = omega arith
-code_most Others = omega arith
-code_most NoMessage = omega arith
+code_most (Ok v) = omega arith
+code_most (Err r) = number_most r
 
 -- a line number of 64 bits, a code, a value and twelve numbers at most
 line_most : (number code value : ℕ) (ns : List ℕ) → number < 2 ^ 64 → code ≤ 18 → value < 2 ^ 32 → Narrow ns → length ns ≤ out_count

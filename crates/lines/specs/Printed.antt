@@ -1,8 +1,7 @@
 -- Event lines and answer lines as they are printed ("Around the step" in 01).
 -- Assumes nothing.
 use Rattle.std.specs.Prelude.{ℕ, ◌≤◌, ◌≡◌, List, [], ◌∷◌, ◌++◌, take}
-use Rattle.words.specs.declared.Answer.{Answer}
-use Rattle.words.specs.Answers.{code_of, value_of}
+use Rattle.words.specs.Answers.{Answer, code_of, value_of}
 use Rattle.words.specs.Numbers.{out_count}
 use Rattle.digits.specs.declared.Wrote.{Wrote}
 use Rattle.digits.specs.declared.Wrote.TheVariants.{To}

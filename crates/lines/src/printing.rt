@@ -9,7 +9,7 @@ use crate::event_lines::fields_of;
 use crate::{ANSWER_ROOM, EVENT_ROOM};
 use digits::{Wrote, print_number};
 use rulebook::Event;
-use words::{Answer, OUTPUT, Serial};
+use words::{Answer, OUTPUT, Serial, code, value};
 
 fn wide(x: Serial) -> u64
     ensures { result ≡ x }
@@ -106,7 +106,7 @@ pub fn write_answer(
         return Wrote::Full;
     }
     let shown = least(least(many, OUTPUT), row.len());
-    Wrote::To(put_answer(out, at, number, answer.code(), answer.value(), row, shown))
+    Wrote::To(put_answer(out, at, number, code(answer), value(answer), row, shown))
 }
 
 // An event line at a position of out: the kind and exactly its fields. It asks for room for any event line; else out stays

@@ -1,4 +1,6 @@
 -- Tables emptied column by column, and the slots of zeros. Assumes nothing.
+use Rattle.std.specs.Prelude.{Err}
+use Rattle.std.specs.Prelude.{Ok}
 use Prim.Native.Nat.{ℕ, zero, suc, ◌+◌, ◌≤◌}
 use native.Mathlib.Nat.{zero-add, eq-or-lt_of_le, le_of_suc-le-suc}
 use native.Mathlib.Numerals.{add-one}
@@ -11,7 +13,7 @@ use lib.Dec.{ltb}
 use lib.ListN.{set, length, replicate}
 use lib.Seq.{sets, sets-eq, set_out, length-sets, drop-length}
 use borrow.Author.Tests.{le-ltb}
-use Rattle.words.specs.declared.Answer.TheVariants.{Done, Short}
+use Rattle.words.specs.declared.Refusal.TheVariants.{Short}
 use Rattle.words.specs.Numbers.{station_count, series_count, job_count, place_count, received_count}
 use Rattle.words.specs.Tests.{◌or◌}
 use Rattle.copies.specs.Tables.{Copies, tables, short_copies}
@@ -97,13 +99,13 @@ all_written l vs e =
 -- ---- the plant
 module _ (t u : Copies) (bs : List Job) where
   -- SHORT: a column has fewer entries than its stated size
-  pub made_short : (long : Bool) → cleared long u ≡ clear_of t → long ≡ false → made (stepped Short bs) u ≡ empty_of (plant t bs)
+  pub made_short : (long : Bool) → cleared long u ≡ clear_of t → long ≡ false → made (stepped (Err Short) bs) u ≡ empty_of (plant t bs)
   unfolding empty_of short_tables ◌or◌
   made_short long e f = let said = clear_said t false u (rw (← f) e) in rw (said.0, said.1)
 
   -- none has, and there are sixteen slots, all of zeros then: the plant is emptied
   pub made_empty : {b : Job} (long : Bool) → cleared long u ≡ clear_of t → long ≡ true → length bs ≡ job_count → b ≡ no_job
-      → made (stepped (Done 0) (replicate job_count b)) u ≡ empty_of (plant t bs)
+      → made (stepped (Ok 0) (replicate job_count b)) u ≡ empty_of (plant t bs)
   unfolding empty_of emptied short_tables short_jobs ◌or◌
   made_empty long e f sixteen none =
       let said = clear_said t true u (rw (← f) e) in

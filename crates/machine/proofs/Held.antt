@@ -6,7 +6,7 @@ use mathlib.Core.List.{List, []}
 use lib.Dec.{eqb, leb}
 use lib.ListN.{length}
 use borrow.Author.Tests.{leb-false, le-ltb}
-use Rattle.words.specs.declared.Answer.TheVariants.{Short as SHORT, NotWhole, BadEvent, None}
+use Rattle.words.specs.declared.Refusal.TheVariants.{Short as SHORT, NotWhole, BadEvent, None}
 use Rattle.std.specs.Prelude.{Result, Ok, Err}
 use Rattle.words.specs.declared.Rule.{Rule}
 use Rattle.words.specs.declared.Flaw.{Flaw}
@@ -35,7 +35,7 @@ set_right : (r : Series) (set : ℕ) → set ≡ holder_set r → by_set set ≡
 set_right r set e = rw (e, ones_set station_count (held r), zeros_set station_count (held r))
 
 -- refusal 3
-pub there_bad : (r : Series) (s : ℕ) (h : Holders) → leb series_count s ≡ true → h ≡ no_holders BadEvent → h ≡ holders_there r s
+pub there_bad : (r : Series) (s : ℕ) (h : Holders) → leb series_count s ≡ true → h ≡ no_holders (Err BadEvent) → h ≡ holders_there r s
 unfolding holders_there
 there_bad r s h l e = rw l e
 
@@ -49,7 +49,7 @@ module _ (firsts kinds : List ℕ) (s : ℕ) (h : Holders) (o : Bool) (l : serie
   there = series_in firsts [] kinds [] [] [] [] [] [] s
 
   -- refusal 5
-  pub there_closed : not o ≡ true → h ≡ no_holders None → h ≡ holders_there there s
+  pub there_closed : not o ≡ true → h ≡ no_holders (Err None) → h ≡ holders_there there s
   unfolding holders_there
   there_closed flag e =
       let shut = non_call_true o _ (read_open (tables firsts [] kinds [] [] [] [] [] [] []) s o l (leb-false _ _ small) said) flag in
@@ -72,12 +72,12 @@ module _ (t : Copies) (bs : List Job) (found : Result (Unit {0}) Flaw) (e : foun
 
   module _ (s : ℕ) (h : Holders) where
     -- refusal 1
-    pub holders_short : (flaw : Flaw) → found ≡ Err flaw → flaw ≡ Short → h ≡ no_holders SHORT → h ≡ holders_of (plant t bs) s
+    pub holders_short : (flaw : Flaw) → found ≡ Err flaw → flaw ≡ Short → h ≡ no_holders (Err SHORT) → h ≡ holders_of (plant t bs) s
     unfolding holders_of
     holders_short flaw w f q = rw (check_short (plant t bs) (sym e ∙ w ∙ ap Err f)) q
 
     -- refusal 2
-    pub holders_broken : (flaw : Flaw) (rule : Rule) → found ≡ Err flaw → flaw ≡ Broken rule → h ≡ no_holders NotWhole → h ≡ holders_of (plant t bs) s
+    pub holders_broken : (flaw : Flaw) (rule : Rule) → found ≡ Err flaw → flaw ≡ Broken rule → h ≡ no_holders (Err NotWhole) → h ≡ holders_of (plant t bs) s
     unfolding holders_of non
     holders_broken flaw rule w f q =
         let broken = check_broken (plant t bs) rule (sym e ∙ w ∙ ap Err f) in rw (broken.0, broken.1) q

@@ -5,7 +5,7 @@ use mathlib.Core.Bool.{false}
 use mathlib.Core.List.{List}
 use lib.ListN.{length}
 use borrow.Author.Tests.{lt-ltb, le-ltb}
-use Rattle.words.specs.declared.Answer.TheVariants.{Short, NotWhole}
+use Rattle.words.specs.declared.Refusal.TheVariants.{Short, NotWhole}
 use Rattle.std.specs.Prelude.{Result, Ok, Err}
 use Rattle.words.specs.declared.Rule.{Rule}
 use Rattle.words.specs.declared.Flaw.{Flaw}
@@ -34,12 +34,12 @@ module _ (t : Copies) (bs : List Job) (out : List ℕ) (e : Event) where
   lent = plant t bs
 
   -- the output is short
-  pub way_room : length out < out_count → left (stepped Short bs) t out ≡ step_of lent out e
+  pub way_room : length out < out_count → left (stepped (Err Short) bs) t out ≡ step_of lent out e
   unfolding step_of effect judged SHORT shown
   way_room l = rw (lt-ltb _ _ l, or_true (short_tables lent))
 
   -- a table is short
-  pub way_short : (found : Result (Unit {0}) Flaw) (flaw : Flaw) → found ≡ check lent → found ≡ Err flaw → flaw ≡ FlawShort → left (stepped Short bs) t out ≡ step_of lent out e
+  pub way_short : (found : Result (Unit {0}) Flaw) (flaw : Flaw) → found ≡ check lent → found ≡ Err flaw → flaw ≡ FlawShort → left (stepped (Err Short) bs) t out ≡ step_of lent out e
   unfolding step_of effect judged SHORT shown ◌or◌
   way_short found flaw p h f = rw (check_short lent (sym p ∙ h ∙ ap Err f))
 
@@ -50,7 +50,7 @@ module _ (t : Copies) (bs : List Job) (out : List ℕ) (e : Event) where
 
   -- NOT WHOLE
   pub way_broken : (rule : Rule) (found : Result (Unit {0}) Flaw) (flaw : Flaw) → out_count ≤ length out → found ≡ check lent → found ≡ Err flaw → flaw ≡ Broken rule
-      → left (stepped NotWhole bs) t out ≡ step_of lent out e
+      → left (stepped (Err NotWhole) bs) t out ≡ step_of lent out e
   unfolding step_of effect judged NOT_WHOLE non shown
   way_broken rule found flaw l p h f =
       let broken = check_broken lent rule (sym p ∙ h ∙ ap Err f) in

@@ -10,7 +10,7 @@ use crate::whole::check;
 use copies::{Seen, is_open};
 use jobs::Job;
 use rulebook::Holders;
-use words::{Answer, Flaw, JOBS, SERIES, Serial};
+use words::{Answer, Flaw, JOBS, Refusal, SERIES, Serial};
 
 // A refusal, with all three 0.
 pub fn no_holders(answer: Answer) -> Holders
@@ -29,7 +29,7 @@ fn counted(set: u8) -> Holders
     ensures { result ≡ by_set set }
 {
     Holders {
-        answer: Answer::Done(0),
+        answer: Ok(0),
         set,
         count: u8::count_ones(set),
         lowest: u8::trailing_zeros(set),
@@ -44,10 +44,10 @@ fn holders_in(firsts: &[Serial], kinds: &[u32], series: u32) -> Holders
     let missing = SERIES <= series as usize;
     let opened = is_open(firsts, series);
     if missing {
-        return no_holders(Answer::BadEvent);
+        return no_holders(Err(Refusal::BadEvent));
     }
     if !opened {
-        return no_holders(Answer::None);
+        return no_holders(Err(Refusal::None));
     }
     counted(copies::holders(kinds, series))
 }
@@ -82,8 +82,8 @@ pub fn holders(
         up,
     };
     match check(jobs, &columns) {
-        Err(Flaw::Short) => no_holders(Answer::Short),
-        Err(Flaw::Broken(_)) => no_holders(Answer::NotWhole),
+        Err(Flaw::Short) => no_holders(Err(Refusal::Short)),
+        Err(Flaw::Broken(_)) => no_holders(Err(Refusal::NotWhole)),
         Ok(()) => holders_in(firsts, kinds, series),
     }
 }

@@ -6,7 +6,7 @@ ghost use Rattle.rulebook.specs.Around.{empty_of};
 ghost use Rattle.machine.specs.Calls.{made, cleared, clear_of, filled};
 
 use jobs::{Job, Stepped};
-use words::{Answer, JOBS, PLACES, RECEIVED, SERIES, STATIONS, Serial};
+use words::{JOBS, PLACES, RECEIVED, Refusal, SERIES, STATIONS, Serial};
 
 // Writes a number at the first so many entries of a column, or at all where it has fewer.
 fn fill(column: &mut [u32], size: usize, number: u32)
@@ -86,12 +86,12 @@ pub fn empty(
     ) {
         let unused = jobs[0].close();
         return Stepped {
-            answer: Answer::Done(0),
+            answer: Ok(0),
             jobs: [unused; JOBS],
         };
     }
     Stepped {
-        answer: Answer::Short,
+        answer: Err(Refusal::Short),
         jobs,
     }
 }

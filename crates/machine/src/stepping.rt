@@ -10,7 +10,7 @@ use copies::Seen;
 use events::step_unchecked;
 use jobs::{Job, Stepped};
 use rulebook::Event;
-use words::{Answer, Flaw, JOBS, OUTPUT, Serial};
+use words::{Flaw, JOBS, OUTPUT, Refusal, Serial};
 
 // THE STEP: an event, the tables, the output. SHORT, NOT WHOLE, and then the listed order.
 pub fn step(
@@ -33,7 +33,7 @@ pub fn step(
 {
     if out.len() < OUTPUT {
         return Stepped {
-            answer: Answer::Short,
+            answer: Err(Refusal::Short),
             jobs,
         };
     }
@@ -51,11 +51,11 @@ pub fn step(
     };
     match check(jobs, &columns) {
         Err(Flaw::Short) => Stepped {
-            answer: Answer::Short,
+            answer: Err(Refusal::Short),
             jobs,
         },
         Err(Flaw::Broken(_)) => Stepped {
-            answer: Answer::NotWhole,
+            answer: Err(Refusal::NotWhole),
             jobs,
         },
         Ok(()) => step_unchecked(

@@ -1,5 +1,7 @@
 -- Lent tables by the number of their job slots: fewer than sixteen are refusal 1, and of sixteen or more the first sixteen decide.
 -- Assumes nothing.
+use Rattle.std.specs.Prelude.{Err}
+use Rattle.std.specs.Prelude.{Ok}
 use Prim.Native.Nat.{ℕ, ◌<◌, ◌≤◌}
 use mathlib.Core.Path.{◌≡◌, ◌∙◌, sym, ap}
 use mathlib.Core.Bool.{true, false}
@@ -9,7 +11,7 @@ use lib.Seq.{sets}
 use borrow.Author.Tests.{lt-ltb, le-ltb}
 use Rattle.words.specs.Numbers.{job_count}
 use Rattle.words.specs.Tests.{◌or◌}
-use Rattle.words.specs.declared.Answer.TheVariants.{Done, Short}
+use Rattle.words.specs.declared.Refusal.TheVariants.{Short}
 use Rattle.words.proofs.Laws.{or_true}
 use Rattle.copies.specs.Tables.{Copies}
 use Rattle.jobs.specs.declared.Job.{Job}
@@ -44,7 +46,7 @@ module _ (t : Copies) (bs : List Job) where
   -- ---- a step
   module _ (out : List ℕ) (e : Event) where
     -- of fewer than sixteen slots: refusal 1
-    pub step_few : length bs < job_count → left Short (plant t bs) out ≡ step_of (plant t bs) out e
+    pub step_few : length bs < job_count → left (Err Short) (plant t bs) out ≡ step_of (plant t bs) out e
     unfolding step_of effect judged SHORT shown ◌or◌
     step_few few = rw (few_short few)
 
@@ -59,25 +61,25 @@ module _ (t : Copies) (bs : List Job) where
 
   -- ---- an empty plant
   -- in fewer than sixteen slots: refusal 1
-  pub empty_few : length bs < job_count → made Short (plant t bs) ≡ empty_of (plant t bs)
+  pub empty_few : length bs < job_count → made (Err Short) (plant t bs) ≡ empty_of (plant t bs)
   unfolding empty_of
   empty_few few = rw (few_short few)
 
   -- in short columns, which are as they were
-  pub empty_unclear : (u : Copies) → cleared false u ≡ clear_of t → made Short (plant u bs) ≡ empty_of (plant t bs)
+  pub empty_unclear : (u : Copies) → cleared false u ≡ clear_of t → made (Err Short) (plant u bs) ≡ empty_of (plant t bs)
   unfolding empty_of short_tables ◌or◌
   empty_unclear u e = let said = clear_said t false u e in rw (said.0, said.1)
 
   -- in neither: the columns are cleared, and the jobs in the sixteen slots closed
   pub empty_clear : (u : Copies) (bs' : List Job) → job_count ≤ length bs → cleared true u ≡ clear_of t → bs' ≡ sets bs 0 (replicate job_count no_job)
-      → made (Done 0) (plant u bs') ≡ empty_of (plant t bs)
+      → made (Ok 0) (plant u bs') ≡ empty_of (plant t bs)
   unfolding empty_of emptied short_tables ◌or◌
   empty_clear u bs' enough e slots = let said = clear_said t true u e in rw (said.0, said.1, enough_slots enough, slots)
 
   -- ---- the holders of series s
   module _ (s : ℕ) (h : Holders) where
     -- of fewer than sixteen slots: refusal 1
-    pub holders_few : length bs < job_count → h ≡ no_holders Short → h ≡ holders_of (plant t bs) s
+    pub holders_few : length bs < job_count → h ≡ no_holders (Err Short) → h ≡ holders_of (plant t bs) s
     unfolding holders_of
     holders_few few e = rw (few_short few) e
 

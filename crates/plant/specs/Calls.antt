@@ -1,7 +1,7 @@
 -- What the calls over lent tables leave, as the rulebook's outcome and effect.
 -- Assumes nothing.
 use Rattle.std.specs.Prelude.{ℕ, List, []}
-use Rattle.words.specs.declared.Answer.{Answer}
+use Rattle.words.specs.Answers.{Answer}
 use Rattle.rulebook.specs.Tables.{Plant}
 use Rattle.rulebook.specs.Steps.{Outcome, Effect}
 

@@ -7,7 +7,7 @@ ghost use Rattle.rulebook.specs.Around.{holders_of};
 use crate::slots::taken_out;
 use jobs::Job;
 use rulebook::Holders;
-use words::{Answer, JOBS, Serial};
+use words::{JOBS, Refusal, Serial};
 
 // The holders of a series: the station set, its count and its lowest station. Refusals 1, 2, 3 and 5.
 pub fn holders(
@@ -27,7 +27,7 @@ pub fn holders(
     ensures { result ≡ holders_of (plant (tables firsts.now lasts.now kinds.now values.now sent.now relto.now relkind.now relvalue.now received.now up.now) jobs.now) series }
 {
     if jobs.len() < JOBS {
-        return machine::no_holders(Answer::Short);
+        return machine::no_holders(Err(Refusal::Short));
     }
     let all = taken_out(jobs);
     machine::holders(

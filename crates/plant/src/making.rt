@@ -7,7 +7,7 @@ ghost use Rattle.plant.specs.Calls.{made};
 
 use crate::slots::close_slots;
 use jobs::Job;
-use words::{Answer, JOBS, Serial};
+use words::{Answer, JOBS, Refusal, Serial};
 
 // Makes an empty plant in the lent tables: no series, no jobs, all stations up. Refuses only with SHORT; extra entries stay.
 pub fn empty(
@@ -27,13 +27,13 @@ pub fn empty(
         ≡ empty_of (plant (tables firsts.old lasts.old kinds.old values.old sent.old relto.old relkind.old relvalue.old received.old up.old) jobs.old) }
 {
     if jobs.len() < JOBS {
-        return Answer::Short;
+        return Err(Refusal::Short);
     }
     if !machine::clear(
         firsts, lasts, kinds, values, sent, relto, relkind, relvalue, received, up,
     ) {
-        return Answer::Short;
+        return Err(Refusal::Short);
     }
     close_slots(jobs);
-    Answer::Done(0)
+    Ok(0)
 }

@@ -8,7 +8,7 @@ ghost use Rattle.plant.specs.Calls.{left};
 use crate::slots::{put_back, taken_out};
 use jobs::Job;
 use rulebook::Event;
-use words::{Answer, JOBS, Serial};
+use words::{Answer, JOBS, Refusal, Serial};
 
 // THE STEP: an event, the tables, the output. SHORT, NOT WHOLE, and then the listed order.
 pub fn step(
@@ -30,7 +30,7 @@ pub fn step(
         ≡ step_of (plant (tables firsts.old lasts.old kinds.old values.old sent.old relto.old relkind.old relvalue.old received.old up.old) jobs.old) out.old event }
 {
     if jobs.len() < JOBS {
-        return Answer::Short;
+        return Err(Refusal::Short);
     }
     let all = taken_out(jobs);
     let stepped = machine::step(

@@ -1,5 +1,6 @@
 -- A job keeps its four lock places: slot by slot, then by each accepted step.
 -- Assumes nothing.
+use Rattle.std.specs.Prelude.{Err}
 use Prim.Native.Nat.{ℕ, zero, suc, ◌<◌}
 use native.Mathlib.Decide.{ℕ_discrete}
 use native.Mathlib.Omega.{arith}
@@ -8,7 +9,7 @@ use mathlib.Core.Logic.{dite}
 use mathlib.Core.List.{List, [], ◌∷◌}
 use lib.ListN.{length, set, replicate, length-set, get_or-replicate}
 use lib.Seq.{sets, get_or-set_same, get_or-set_other}
-use Rattle.words.specs.declared.Answer.TheVariants.{Short}
+use Rattle.words.specs.declared.Refusal.TheVariants.{Short}
 use Rattle.words.specs.Numbers.{job_count, lock_count}
 use Rattle.jobs.specs.declared.Lock.{Lock}
 use Rattle.jobs.specs.declared.Job.{Job}
@@ -126,7 +127,7 @@ four_empty j lt = ap (λ (x : Job). length x.locks) (get_or-replicate job_count 
 four_made : (p : Plant) → FourPlaces p.jobs → FourPlaces (empty_of p).plant.jobs
 unfolding empty_of emptied
 four_made p four =
-    cond_cases (λ (x : Effect). FourPlaces x.plant.jobs) (short_tables p) (refused Short p) (done 0 (emptied p))
+    cond_cases (λ (x : Effect). FourPlaces x.plant.jobs) (short_tables p) (refused (Err Short) p) (done 0 (emptied p))
     (λ _. four) (λ _. four_filled job_count p.jobs 0 four)
 
 -- all three

@@ -5,13 +5,13 @@ use mathlib.Core.Path.{◌≡◌, refl}
 use mathlib.Core.Bool.{Bool, true, false, cond}
 use mathlib.Core.List.{List, [], ◌∷◌}
 use lib.ListN.{get_or}
-use Rattle.words.specs.declared.Answer.{Answer}
+use Rattle.words.specs.Answers.{Answer}
 use Rattle.copies.specs.Steps.{arrived, deleted, is_repeat, matches}
 use Rattle.rulebook.specs.declared.Event.{Event}
 use Rattle.rulebook.specs.Tables.{Plant, with_copies}
 use Rattle.rulebook.specs.Events.{a_series, a_from, a_to, a_number, the, the_series}
 use Rattle.rulebook.specs.Edges.{event}
-use Rattle.rulebook.specs.Refusals.{Refusal}
+use Rattle.rulebook.specs.Refusals.{Case}
 use Rattle.rulebook.specs.Steps.{Effect, done, refused, do_grant, do_ack, nothing, accepted_steps, accepted, judged}
 
 infixr 10 ◌then◌
@@ -23,23 +23,23 @@ cond_cases P false x y f g = g refl
 
 -- ---- the refusals
 -- none of them is given
-abbrev pub NoneGiven : List Refusal → Plant → Event → Type 0
+abbrev pub NoneGiven : List Case → Plant → Event → Type 0
 NoneGiven [] p e = Unit {0}
 NoneGiven (r ∷ rs) p e = (r.given p e ≡ false) × NoneGiven rs p e
 
 -- where none of the refusals is given, an event has its accepted step
-pub judged_accepted : (rs : List Refusal) (p : Plant) (e : Event) → NoneGiven rs p e → judged rs p e ≡ accepted p e
+pub judged_accepted : (rs : List Case) (p : Plant) (e : Event) → NoneGiven rs p e → judged rs p e ≡ accepted p e
 unfolding judged
 judged_accepted [] p e none = refl
 judged_accepted (r ∷ rs) p e none = rw none.0 (judged_accepted rs p e none.1)
 
 -- a statement of each answer that they give
-abbrev pub EachAnswer : (Q : Answer → Type 0) → List Refusal → Type 0
+abbrev pub EachAnswer : (Q : Answer → Type 0) → List Case → Type 0
 EachAnswer Q [] = Unit {0}
 EachAnswer Q (r ∷ rs) = Q r.answer × EachAnswer Q rs
 
 -- what is shown of a refusal with each of these answers, and of the accepted step where none is given, is shown of what is judged
-pub judged_answers : (P : Effect → Type 0) (Q : Answer → Type 0) (rs : List Refusal) (p : Plant) (e : Event)
+pub judged_answers : (P : Effect → Type 0) (Q : Answer → Type 0) (rs : List Case) (p : Plant) (e : Event)
     → EachAnswer Q rs
     → ((a : Answer) → Q a → P (refused a p))
     → (NoneGiven rs p e → P (accepted p e))
@@ -51,13 +51,13 @@ judged_answers P Q (r ∷ rs) p e each stop go =
     (λ h. judged_answers P Q rs p e each.1 stop (λ more. go (h, more)))
 
 -- nothing needs to be known of the answers where it is shown of every refusal
-pub judged_cases : (P : Effect → Type 0) (rs : List Refusal) (p : Plant) (e : Event)
+pub judged_cases : (P : Effect → Type 0) (rs : List Case) (p : Plant) (e : Event)
     → ((a : Answer) → P (refused a p))
     → (NoneGiven rs p e → P (accepted p e))
     → P (judged rs p e)
 judged_cases P rs p e stop go = judged_answers P (λ a. Unit {0}) rs p e (any rs) (λ a _. stop a) go
   where
-    any : (rs : List Refusal) → EachAnswer (λ a. Unit {0}) rs
+    any : (rs : List Case) → EachAnswer (λ a. Unit {0}) rs
     any [] = tt
     any (r ∷ rs) = (tt, any rs)
 

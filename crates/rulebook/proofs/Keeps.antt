@@ -1,12 +1,13 @@
 -- Every refusal has value 0 and changes nothing: of a step, of the making of an empty plant, of the holders.
 -- Assumes nothing.
+use Rattle.std.specs.Prelude.{Err}
+use Rattle.std.specs.Prelude.{Ok}
 use mathlib.Core.Path.{◌≡◌, refl}
 use mathlib.Core.Bool.{Bool, true, false, cond}
 use mathlib.Core.List.{[]}
 use lib.Dec.{leb}
-use Rattle.words.specs.declared.Answer.{Answer}
-use Rattle.words.specs.declared.Answer.TheVariants.{Done, Short, NotWhole, BadEvent, Taken, None, Down, Up, Held, Full, Copy, Locked, NoLock, Drawn, Range, Wait, Spent, Others, NoMessage}
-use Rattle.words.specs.Answers.{code_of, value_of}
+use Rattle.words.specs.Answers.{Answer, code_of, value_of}
+use Rattle.words.specs.declared.Refusal.TheVariants.{Short, NotWhole, BadEvent, Taken, None, Down, Up, Held, Full, Copy, Locked, NoLock, Drawn, Range, Wait, Spent, Others, NoMessage}
 use Rattle.words.specs.Numbers.{series_count}
 use Rattle.words.specs.Tests.{non}
 use Rattle.copies.specs.Tables.{series_at, is_open}
@@ -25,25 +26,8 @@ use Rattle.rulebook.proofs.Judging.{cond_cases, judged_cases, accepted_by_kind, 
 
 -- a refusal has value 0
 pub no_value : (a : Answer) → Refused a → value_of a ≡ 0
-no_value (Done v) h = absurd (h refl)
-no_value Short h = refl
-no_value NotWhole h = refl
-no_value BadEvent h = refl
-no_value Taken h = refl
-no_value None h = refl
-no_value Down h = refl
-no_value Up h = refl
-no_value Held h = refl
-no_value Full h = refl
-no_value Copy h = refl
-no_value Locked h = refl
-no_value NoLock h = refl
-no_value Drawn h = refl
-no_value Range h = refl
-no_value Wait h = refl
-no_value Spent h = refl
-no_value Others h = refl
-no_value NoMessage h = refl
+no_value (Ok v) h = absurd (h refl)
+no_value (Err r) h = refl
 
 -- an accepted step's code is 0
 unfoldable pub Accepts : Effect → Type 0
@@ -87,7 +71,7 @@ step_refusal_keeps p out e h =
 pub empty_refusal_keeps : EmptyRefusalKeeps
 unfolding empty_of
 empty_refusal_keeps p =
-    cond_cases (λ (x : Effect). Refused x.answer → (value_of x.answer ≡ 0) × (x.plant ≡ p)) (short_tables p) (refused Short p) (done 0 (emptied p))
+    cond_cases (λ (x : Effect). Refused x.answer → (value_of x.answer ≡ 0) × (x.plant ≡ p)) (short_tables p) (refused (Err Short) p) (done 0 (emptied p))
     (λ _ _. (refl, refl)) (λ _ refusal. absurd (refusal refl))
 
 -- where the answer is a refusal, all is 0
@@ -104,10 +88,10 @@ none_or false a x h = h
 pub holders_refusal_keeps : HoldersRefusalKeeps
 unfolding holders_of holders_there NoneShown
 holders_refusal_keeps p s =
-    none_or (short_tables p) Short _
-    (none_or (non (whole p)) NotWhole _
-    (none_or (leb series_count s) BadEvent _
-    (none_or (non (is_open (series_at p.copies s))) None (holders_in (series_at p.copies s)) (λ refusal. absurd (refusal refl)))))
+    none_or (short_tables p) (Err Short) _
+    (none_or (non (whole p)) (Err NotWhole) _
+    (none_or (leb series_count s) (Err BadEvent) _
+    (none_or (non (is_open (series_at p.copies s))) (Err None) (holders_in (series_at p.copies s)) (λ refusal. absurd (refusal refl)))))
 
 -- all three
 pub refusal_keeps : RefusalKeeps

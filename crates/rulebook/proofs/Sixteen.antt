@@ -18,7 +18,7 @@ use Rattle.rulebook.specs.declared.Event.{Event}
 use Rattle.rulebook.specs.Tables.{Plant, plant, with_jobs, short_tables}
 use Rattle.rulebook.specs.Whole.{W1, W2, W3, W4, W5, whole}
 use Rattle.rulebook.specs.Events.{a_series, a_job, has, the, the_job, the_station}
-use Rattle.rulebook.specs.Refusals.{SHORT, NOT_WHOLE, BAD_EVENT, TAKEN, NONE, DOWN, UP, HELD, FULL, COPY, LOCKED, NO_LOCK, DRAWN, RANGE, WAIT, SPENT, OTHERS, NO_MESSAGE, Refusal, event_refusals}
+use Rattle.rulebook.specs.Refusals.{SHORT, NOT_WHOLE, BAD_EVENT, TAKEN, NONE, DOWN, UP, HELD, FULL, COPY, LOCKED, NO_LOCK, DRAWN, RANGE, WAIT, SPENT, OTHERS, NO_MESSAGE, Case, event_refusals}
 use Rattle.rulebook.specs.Steps.{Effect, do_open, do_begin, do_lockx, do_locks, do_draw, do_read, do_commit, do_abort, do_send, do_demote, do_share, do_drop, do_promote, do_grant, do_ack, do_crash, do_restart, accepted_steps, accepted, judged, effect, outcome, step_of}
 use Rattle.rulebook.specs.Around.{holders_of}
 use Rattle.rulebook.specs.Sixteen.{StepBySixteen, HoldersBySixteen, BySixteen}
@@ -110,27 +110,27 @@ module _ (t : Copies) (bs extra : List Job) (enough : job_count ≤ length bs) w
 
   module _ (e : Event) where
     -- the refusal is given of both plants or of neither
-    abbrev Agrees : Refusal → Type 0
+    abbrev Agrees : Case → Type 0
     Agrees r = r.given many e ≡ r.given few e
 
     -- and so is each of them
-    abbrev EachAgrees : List Refusal → Type 0
+    abbrev EachAgrees : List Case → Type 0
     EachAgrees [] = Unit {0}
     EachAgrees (r ∷ rs) = Agrees r × EachAgrees rs
 
     -- what is judged is the same, with the extra slots behind
-    abbrev JudgedAlike : List Refusal → Type 0
+    abbrev JudgedAlike : List Case → Type 0
     JudgedAlike rs = judged rs many e ≡ with_extra (judged rs few e)
 
     -- so it is by one refusal and, where it isn't given, by those after it
-    refusal_extra : (r : Refusal) (rs : List Refusal) → Agrees r → (r.given few e ≡ false → JudgedAlike rs) → JudgedAlike (r ∷ rs)
+    refusal_extra : (r : Case) (rs : List Case) → Agrees r → (r.given few e ≡ false → JudgedAlike rs) → JudgedAlike (r ∷ rs)
     unfolding judged
     refusal_extra r rs same later =
         rw same
         (cond_cases (λ (x : Effect). x ≡ with_extra (judged (r ∷ rs) few e)) (r.given few e) _ _ (λ h. rw h) (λ h. rw h (later h)))
 
     -- and by any number of them
-    refusals_extra : (rs : List Refusal) → EachAgrees rs → accepted many e ≡ with_extra (accepted few e) → JudgedAlike rs
+    refusals_extra : (rs : List Case) → EachAgrees rs → accepted many e ≡ with_extra (accepted few e) → JudgedAlike rs
     unfolding judged
     refusals_extra [] same go = go
     refusals_extra (r ∷ rs) same go = refusal_extra r rs same.0 (λ _. refusals_extra rs same.1 go)

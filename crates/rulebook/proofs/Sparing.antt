@@ -1,12 +1,13 @@
 -- Each accepted step, kind by kind: it touches no extra entry, and has at most four draws; then any step, and the empty plant.
 -- Assumes nothing.
+use Rattle.std.specs.Prelude.{Err}
 use Prim.Native.Nat.{ℕ, ◌≤◌, ◌<◌}
 use native.Mathlib.Omega.{arith}
 use mathlib.Core.Path.{◌≡◌, refl}
 use mathlib.Core.List.{List}
 use lib.ListN.{length, drop, set}
 use lib.Seq.{sets, length-sets}
-use Rattle.words.specs.declared.Answer.TheVariants.{Short}
+use Rattle.words.specs.declared.Refusal.TheVariants.{Short}
 use Rattle.words.specs.Numbers.{station_count, series_count, job_count, lock_count, place_count, received_count, out_count}
 use Rattle.copies.specs.Tables.{Copies}
 use Rattle.copies.proofs.Leaves.{OnlyStated}
@@ -228,7 +229,7 @@ emptied_extra p = plant_same p (emptied p) (copies_only (emptied_only p)) (slots
 pub empty_extra_kept : (p : Plant) → SameExtra p (empty_of p).plant
 unfolding empty_of
 empty_extra_kept p =
-    cond_cases (λ (x : Effect). SameExtra p x.plant) (short_tables p) (refused Short p) (done 0 (emptied p))
+    cond_cases (λ (x : Effect). SameExtra p x.plant) (short_tables p) (refused (Err Short) p) (done 0 (emptied p))
     (λ _. (refl, refl)) (λ _. emptied_extra p)
 
 -- both

@@ -4,7 +4,7 @@ use Prim.Native.Nat.{ℕ}
 use mathlib.Core.Path.{◌≡◌, ap}
 use mathlib.Core.Bool.{Bool}
 use mathlib.Core.List.{List, ◌∷◌}
-use Rattle.words.specs.declared.Answer.TheVariants.{Short, NotWhole}
+use Rattle.words.specs.declared.Refusal.TheVariants.{Short, NotWhole}
 use Rattle.words.specs.Numbers.{series_count}
 use Rattle.words.specs.Tests.{non, ◌and◌}
 use Rattle.copies.specs.Whole.{W1_series, W2_series, W3_series, W5_series, W1_marks, W1_copies, W2_copies, W3_copies, W5_copies}

@@ -1,9 +1,9 @@
 -- "Around the step" in 01: the empty plant, and the holders of a series.
 -- Assumes nothing.
-use Rattle.std.specs.Prelude.{ℕ, cond, leb, replicate}
+use Rattle.std.specs.Prelude.{ℕ, cond, leb, replicate, Ok, Err}
 use Rattle.std.proofs.lemmas.List.Edits.{sets}
-use Rattle.words.specs.declared.Answer.{Answer}
-use Rattle.words.specs.declared.Answer.TheVariants.{Done, Short, NotWhole, BadEvent, None}
+use Rattle.words.specs.Answers.{Answer}
+use Rattle.words.specs.declared.Refusal.TheVariants.{Short, NotWhole, BadEvent, None}
 use Rattle.words.specs.Numbers.{station_count, series_count, job_count, place_count, received_count}
 use Rattle.words.specs.Tests.{non, count_below, least_below}
 use Rattle.copies.specs.Tables.{Copies, Series, series_at, is_open, held}
@@ -55,13 +55,13 @@ emptied p = plant (emptied_copies p.copies) (sets p.jobs 0 empty_plant.jobs)
 
 -- making one refuses only with 1
 unfoldable pub empty_of : Plant → Effect
-empty_of p = cond (short_tables p) (refused Short p) (done 0 (emptied p))
+empty_of p = cond (short_tables p) (refused (Err Short) p) (done 0 (emptied p))
 
 -- The holders of a series: the station set, bit i for station i; the count; the lowest station, 8 if none
 abbrev pub holders_in : Series → Holders
 holders_in r =
     record {
-      answer = Done 0;
+      answer = Ok 0;
       set = holder_set r;
       count = count_below station_count (held r);
       lowest = least_below station_count (held r);
@@ -74,10 +74,10 @@ no_holders a = record { answer = a; set = 0; count = 0; lowest = 0 }
 -- refusals 3 and 5 of series s, which keeps r
 unfoldable pub holders_there : Series → ℕ → Holders
 holders_there r s =
-    cond (leb series_count s) (no_holders BadEvent) (cond (non (is_open r)) (no_holders None) (holders_in r))
+    cond (leb series_count s) (no_holders (Err BadEvent)) (cond (non (is_open r)) (no_holders (Err None)) (holders_in r))
 
 -- refusals 1 and 2, and then those
 unfoldable pub holders_of : Plant → ℕ → Holders
 holders_of p s =
-    cond (short_tables p) (no_holders Short)
-    (cond (non (whole p)) (no_holders NotWhole) (holders_there (series_at p.copies s) s))
+    cond (short_tables p) (no_holders (Err Short))
+    (cond (non (whole p)) (no_holders (Err NotWhole)) (holders_there (series_at p.copies s) s))

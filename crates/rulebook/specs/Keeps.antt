@@ -1,8 +1,7 @@
 -- What is left alone: all of it by a refusal, and by every step what stands past the stated sizes ("What a refusal says" in 01).
 -- Assumes nothing.
 use Rattle.std.specs.Prelude.{ℕ, ◌<◌, ◌≡◌, List, [], ◌∷◌, length, drop}
-use Rattle.words.specs.declared.Answer.{Answer}
-use Rattle.words.specs.Answers.{code_of, value_of}
+use Rattle.words.specs.Answers.{Answer, code_of, value_of}
 use Rattle.words.specs.Numbers.{station_count, series_count, job_count, lock_count, place_count, received_count, out_count}
 use Rattle.copies.specs.Tables.{Copies, tables}
 use Rattle.jobs.specs.declared.Job.{Job}

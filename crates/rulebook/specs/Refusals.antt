@@ -1,8 +1,9 @@
 -- "What a refusal says" in 01: when each of the eighteen is given, and the order of the checks.
 -- Assumes nothing.
-use Rattle.std.specs.Prelude.{ℕ, Bool, false, cond, List, [], ◌∷◌, eqb, ltb, leb, length}
-use Rattle.words.specs.declared.Answer.{Answer}
-use Rattle.words.specs.declared.Answer.TheVariants.{Short, NotWhole, BadEvent, Taken, None, Down, Up, Held, Full, Copy, Locked, NoLock, Drawn, Range, Wait, Spent, Others, NoMessage}
+use Rattle.std.specs.Prelude.{ℕ, Bool, false, cond, List, [], ◌∷◌, eqb, ltb, leb, length, Err}
+use Rattle.words.specs.declared.Refusal.{Refusal}
+use Rattle.words.specs.Answers.{Answer}
+use Rattle.words.specs.declared.Refusal.TheVariants.{Short, NotWhole, BadEvent, Taken, None, Down, Up, Held, Full, Copy, Locked, NoLock, Drawn, Range, Wait, Spent, Others, NoMessage}
 use Rattle.words.specs.Numbers.{out_count, share, exclusive}
 use Rattle.words.specs.Tests.{non, ◌and◌, ◌or◌, is_in}
 use Rattle.copies.specs.Tables.{is_open, is_up, kind, stands}
@@ -108,17 +109,17 @@ NO_MESSAGE p e =
     cond (eqb e.kind GRANT) (no_grant (the_series p e) (the a_from e) (the a_to e) (the a_number e))
     (for_kinds (ACK ∷ []) e (no_ack (the_series p e) (the a_from e) (the a_to e) (the a_number e)))
 
--- A refusal: the answer, and when it is given.
-pub record Refusal : Type 0 where
+-- A case of refusal: the answer, and when it is given.
+pub record Case : Type 0 where
   pub answer : Answer
   pub given : Plant → Event → Bool
 
--- an answer, given so
-abbrev pub says : Answer → (Plant → Event → Bool) → Refusal
-says a given = record { answer = a; given = given }
+-- a refusal, given so
+abbrev pub says : Refusal → (Plant → Event → Bool) → Case
+says r given = record { answer = Err r; given = given }
 
 -- refusals 3 to 18, of the event, in the order of the checks
-abbrev pub event_refusals : List Refusal
+abbrev pub event_refusals : List Case
 event_refusals =
     says BadEvent BAD_EVENT
     ∷ says Taken TAKEN
@@ -139,5 +140,5 @@ event_refusals =
     ∷ []
 
 -- all eighteen in the order of the checks: before those of the event, those of what was lent
-abbrev pub refusals : List ℕ → List Refusal
+abbrev pub refusals : List ℕ → List Case
 refusals out = says Short (SHORT out) ∷ says NotWhole NOT_WHOLE ∷ event_refusals

@@ -1,8 +1,7 @@
 -- A run: the steps of a list of events, one after the other, from given tables or from the empty plant.
 -- Assumes nothing.
 use Rattle.std.specs.Prelude.{ℕ, ◌*◌, cond, List, [], ◌∷◌, eqb, take, replicate}
-use Rattle.words.specs.declared.Answer.{Answer}
-use Rattle.words.specs.Answers.{value_of}
+use Rattle.words.specs.Answers.{Answer, value_of}
 use Rattle.words.specs.Numbers.{out_count}
 use Rattle.rulebook.specs.declared.Event.{Event}
 use Rattle.rulebook.specs.Tables.{Plant}

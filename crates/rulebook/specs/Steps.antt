@@ -1,10 +1,9 @@
 -- "The seventeen events" in 01, their accepted steps; and a step: the first refusal that is given, or the accepted step.
 -- What a row doesn't name stays.
 -- Assumes nothing.
-use Rattle.std.specs.Prelude.{ℕ, ◌+◌, cond, List, [], ◌∷◌, get_or, set, length}
+use Rattle.std.specs.Prelude.{ℕ, ◌+◌, cond, List, [], ◌∷◌, get_or, set, length, Ok}
 use Rattle.std.proofs.lemmas.List.Edits.{sets}
-use Rattle.words.specs.declared.Answer.{Answer}
-use Rattle.words.specs.declared.Answer.TheVariants.{Done}
+use Rattle.words.specs.Answers.{Answer}
 use Rattle.words.specs.Numbers.{share, exclusive}
 use Rattle.copies.specs.Tables.{value, sent_count}
 use Rattle.copies.specs.Steps.{opened, sent_off, demoted, shared, dropped, promoted, arrived, deleted, marked, held_count, is_repeat, matches}
@@ -15,7 +14,7 @@ use Rattle.jobs.specs.Draws.{Draw, draws_of, committed, shown}
 use Rattle.rulebook.specs.declared.Event.{Event}
 use Rattle.rulebook.specs.Tables.{Plant, with_copies, with_jobs}
 use Rattle.rulebook.specs.Events.{a_series, a_station, a_from, a_to, a_job, a_first, a_last, a_count, a_number, the, the_series, the_job, the_station}
-use Rattle.rulebook.specs.Refusals.{Refusal, refusals}
+use Rattle.rulebook.specs.Refusals.{Case, refusals}
 
 -- What an event does: the answer, the plant after it, and the draws that it commits.
 pub record Effect : Type 0 where
@@ -25,7 +24,7 @@ pub record Effect : Type 0 where
 
 -- accepted, with value v
 abbrev pub done : ℕ → Plant → Effect
-done v p = record { answer = Done v; plant = p; draws = [] }
+done v p = record { answer = Ok v; plant = p; draws = [] }
 
 -- every refusal changes no table and commits nothing
 abbrev pub refused : Answer → Plant → Effect
@@ -62,7 +61,7 @@ do_read p e = done (value (the_series p e) (the_station p e) + (lock_on (the_job
 -- the draws ds are committed and the job closes
 abbrev pub commits : Plant → Event → List Draw → Effect
 commits p e ds =
-    record { answer = Done (length ds); plant = put_job (with_copies p (committed p.copies ds)) e no_job; draws = ds }
+    record { answer = Ok (length ds); plant = put_job (with_copies p (committed p.copies ds)) e no_job; draws = ds }
 
 -- 7. each drawn count is added to its copy's value, the job closes; the number of draws
 unfoldable pub do_commit : Plant → Event → Effect
@@ -149,7 +148,7 @@ unfoldable pub accepted : Plant → Event → Effect
 accepted p e = get_or accepted_steps e.kind nothing p e
 
 -- the first refusal of the list that is given, or the accepted step
-unfoldable pub judged : List Refusal → Plant → Event → Effect
+unfoldable pub judged : List Case → Plant → Event → Effect
 judged [] p e = accepted p e
 judged (r ∷ rs) p e = cond (r.given p e) (refused r.answer p) (judged rs p e)
 

@@ -1,5 +1,6 @@
 -- A transfer under way whose receiver is up can be delivered: none of the eighteen refusals is given to its GRANT.
 -- Assumes nothing.
+use Rattle.std.specs.Prelude.{Ok}
 use Prim.Native.Nat.{ℕ, ◌≤◌, ◌<◌}
 use native.Mathlib.Omega.{arith}
 use mathlib.Core.Path.{◌≡◌, refl, sym, ap, subst, ◌∙◌}
@@ -8,7 +9,6 @@ use mathlib.Core.List.{List}
 use lib.Dec.{leb}
 use lib.ListN.{length}
 use borrow.Author.Tests.{le-ltb, lt-leb, le-leb, eq-eqb, ne_eqb}
-use Rattle.words.specs.declared.Answer.TheVariants.{Done}
 use Rattle.words.specs.Numbers.{station_count, series_count, out_count, greatest_sent}
 use Rattle.words.specs.Tests.{non, ◌and◌, ◌or◌}
 use Rattle.words.proofs.Laws.{neither}
@@ -170,7 +170,7 @@ module _ (p : Plant) (out : List ℕ) (s from : ℕ) (short : short_tables p ≡
 
   -- it is accepted with value 1, and the transfer has arrived
   pub delivers : Undelivered mine from → is_up p.copies (rel_to mine from) ≡ true
-      → ((effect p out (message mine s from)).answer ≡ Done 1)
+      → ((effect p out (message mine s from)).answer ≡ Ok 1)
       × Arrived mine from (series_at (effect p out (message mine s from)).plant.copies s)
   delivers u up =
       let k = coming p.copies s from (whole_facts p w).0 inSeries inStation u in

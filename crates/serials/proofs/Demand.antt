@@ -1,10 +1,10 @@
 -- Demand 3: the four statements, from what holds at every point of a run.
 -- Assumes nothing.
+use Rattle.std.specs.Prelude.{Ok}
 use Prim.Native.Nat.{ℕ, ◌+◌, ◌<◌}
 use mathlib.Core.Path.{◌≡◌, refl, sym, ap, subst, ◌∙◌}
 use mathlib.Core.List.{List}
 use lib.ListN.{length}
-use Rattle.words.specs.declared.Answer.TheVariants.{Done}
 use Rattle.words.specs.Numbers.{series_count}
 use Rattle.copies.specs.Tables.{series_at, next}
 use Rattle.copies.specs.Facts.{Open}
@@ -49,7 +49,7 @@ serials es =
 
 -- a READ by its fields
 read_fields : (es : List Event) (a b c d v : ℕ)
-    → (effect (from_empty effect es).plant (from_empty effect es).out (event READ a b c d)).answer ≡ Done v
+    → (effect (from_empty effect es).plant (from_empty effect es).out (event READ a b c d)).answer ≡ Ok v
     → v ≡ read_of (from_empty effect es) (event READ a b c d)
 read_fields es a b c d v said =
     let x = from_empty effect es in
@@ -59,7 +59,7 @@ read_fields es a b c d v said =
 -- the reads
 pub reads : ReadsHold
 reads es e v isRead =
-    subst (λ (k : ℕ). (effect (from_empty effect es).plant (from_empty effect es).out (event k e.a e.b e.c e.d)).answer ≡ Done v → v ≡ read_of (from_empty effect es) (event k e.a e.b e.c e.d)) (sym isRead)
+    subst (λ (k : ℕ). (effect (from_empty effect es).plant (from_empty effect es).out (event k e.a e.b e.c e.d)).answer ≡ Ok v → v ≡ read_of (from_empty effect es) (event k e.a e.b e.c e.d)) (sym isRead)
     (read_fields es e.a e.b e.c e.d v)
 
 -- whole tables stay whole

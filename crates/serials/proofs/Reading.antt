@@ -1,11 +1,11 @@
 -- An accepted READ returns the next number and the job's own draw: it reads a copy that the job locks, which is held.
 -- Assumes nothing.
+use Rattle.std.specs.Prelude.{Ok}
 use Prim.Native.Nat.{ℕ, ◌+◌, ◌<◌}
 use native.Mathlib.Omega.{arith}
 use mathlib.Core.Path.{◌≡◌, refl, sym, ap}
 use mathlib.Core.Logic.{⊎_elim}
 use mathlib.Core.List.{List}
-use Rattle.words.specs.declared.Answer.TheVariants.{Done}
 use Rattle.words.specs.Answers.{code_of, value_of}
 use Rattle.words.specs.Numbers.{series_count}
 use Rattle.copies.specs.Tables.{series_at, value, next}
@@ -45,7 +45,7 @@ module _ (p : Plant) (out : List ℕ) (a b c d : ℕ) where
   -- what is known of one that is answered so: the series is one that there is, it is open, and the value is its next number and the own draw
   abbrev ReadOf : Effect → Type 0
   ReadOf x =
-      (v : ℕ) → x.answer ≡ Done v
+      (v : ℕ) → x.answer ≡ Ok v
       → (b < series_count) × Open (series_at p.copies b) × (v ≡ next (series_at p.copies b) + (lock_on (job_at p.jobs a) b).drawn)
 
   -- so it is of an accepted one

@@ -1,5 +1,6 @@
 -- Each statement is false of its wrong machines: of each there is a short list of events after which it doesn't hold, by computation.
 -- Assumes nothing.
+use Rattle.std.specs.Prelude.{Ok}
 use Prim.Native.Nat.{ℕ, zero, suc, ◌<◌}
 use native.Mathlib.Omega.{arith}
 use mathlib.Core.Path.{◌≡◌, refl, sym, ap, subst, ◌∙◌}
@@ -9,9 +10,7 @@ use mathlib.Core.Logic.{⊎_elim}
 use lib.Dec.{eqb}
 use lib.ListN.{length}
 use borrow.Author.Tests.{eqb-true}
-use Rattle.words.specs.declared.Answer.{Answer}
-use Rattle.words.specs.Answers.{value_of}
-use Rattle.words.specs.declared.Answer.TheVariants.{Done}
+use Rattle.words.specs.Answers.{Answer, value_of}
 use Rattle.words.specs.Numbers.{station_count}
 use Rattle.words.specs.Tests.{non, ◌and◌, some_below}
 use Rattle.words.proofs.Laws.{both_true}
@@ -195,13 +194,13 @@ abbrev answered : Machine → Run → Event → Answer × ℕ
 answered m x e = ((m x.plant x.out e).answer, read_of x e)
 
 -- a READ that returns 1 in the place of 2
-misread : (m : Machine) (es : List Event) → answered m (from_empty m es) reads ≡ (Done 1, 2) → Reads m → ⊥
+misread : (m : Machine) (es : List Event) → answered m (from_empty m es) reads ≡ (Ok 1, 2) → Reads m → ⊥
 misread m es computed holds =
     let told = holds es reads 1 refl (ap (λ (x : Answer × ℕ). x.0) computed) in
     omega (arith, told ∙ ap (λ (x : Answer × ℕ). x.1) computed)
 
 -- its READ returns 1, and is to return 2
-own_computed : answered (read_without_own effect_walked) (from_empty (read_without_own effect_walked) own_draw) reads ≡ (Done 1, 2)
+own_computed : answered (read_without_own effect_walked) (from_empty (read_without_own effect_walked) own_draw) reads ≡ (Ok 1, 2)
 unfolding computes instead draws_in draws_shown count_in own_draw
 own_computed = refl
 
@@ -210,7 +209,7 @@ no_read_without : RulesOut Reads read_without_own
 no_read_without = by_walking Reads read_without_own (misread (read_without_own effect_walked) own_draw own_computed)
 
 -- its READ returns 1, and is to return 2
-zero_computed : answered (read_at_zero effect_walked) (from_empty (read_at_zero effect_walked) drawn_there) reads ≡ (Done 1, 2)
+zero_computed : answered (read_at_zero effect_walked) (from_empty (read_at_zero effect_walked) drawn_there) reads ≡ (Ok 1, 2)
 unfolding computes instead draws_in draws_shown count_in drawn_there
 zero_computed = refl
 

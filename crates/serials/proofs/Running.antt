@@ -1,5 +1,6 @@
 -- What holds at every point of a run from the empty plant.
 -- Assumes nothing.
+use Rattle.std.specs.Prelude.{Err}
 use Prim.Native.Nat.{ℕ, zero, suc, ◌≤◌, ◌<◌}
 use native.Mathlib.Omega.{arith}
 use mathlib.Core.Path.{◌≡◌, refl, sym, ap, subst, ◌∙◌}
@@ -8,9 +9,8 @@ use mathlib.Core.Bool.{true, false}
 use mathlib.Core.List.{List, [], ◌∷◌, ◌++◌, append-nil, append_assoc}
 use lib.ListN.{length, replicate, get_or-replicate}
 use borrow.Author.Tests.{le-ltb}
-use Rattle.words.specs.declared.Answer.{Answer}
-use Rattle.words.specs.declared.Answer.TheVariants.{Short, NotWhole}
-use Rattle.words.specs.Answers.{code_of}
+use Rattle.words.specs.Answers.{Answer, code_of}
+use Rattle.words.specs.declared.Refusal.TheVariants.{Short, NotWhole}
 use Rattle.words.specs.Numbers.{series_count, out_count}
 use Rattle.words.specs.Tests.{non, ◌or◌}
 use Rattle.copies.specs.Tables.{series_at}
@@ -92,18 +92,18 @@ module _ {p : Plant} {out : List ℕ} {ds : List Drawn} (sure : Sure p out ds) (
       (λ _. let none = accepted_code p e in (omega arith, omega arith)))
 
   -- the reply is neither
-  pub never_short : (reply_to e (outcome out step)).answer ≢ Short
+  pub never_short : (reply_to e (outcome out step)).answer ≢ Err Short
   never_short q = never_given.0 (ap code_of q)
 
-  pub never_broken : (reply_to e (outcome out step)).answer ≢ NotWhole
+  pub never_broken : (reply_to e (outcome out step)).answer ≢ Err NotWhole
   never_broken q = never_given.1 (ap code_of q)
 
 -- ---- a run
 -- Where it is sure at the start: at the end it is, with the draws that the replies show; and no event was refused with 1 or 2.
 pub record Ran (x : Run) (ds : List Drawn) : Type 0 where
   pub sure : Sure x.plant x.out (ds ++ draws_shown x.replies)
-  pub not_short : Never Short x.replies
-  pub not_broken : Never NotWhole x.replies
+  pub not_short : Never (Err Short) x.replies
+  pub not_broken : Never (Err NotWhole) x.replies
 
 -- so it is of any list of events
 pub sure_run : (es : List Event) {p : Plant} {out : List ℕ} {ds : List Drawn} → Sure p out ds → Ran (run_by effect p out es) ds

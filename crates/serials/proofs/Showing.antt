@@ -9,7 +9,7 @@ use lib.Dec.{eqb}
 use borrow.Author.Tests.{ne_eqb}
 use lib.ListN.{length, take}
 use lib.Seq.{sets, sets-eq, take_at}
-use Rattle.words.specs.declared.Answer.{Answer}
+use Rattle.words.specs.Answers.{Answer}
 use Rattle.words.specs.Numbers.{lock_count, out_count}
 use Rattle.jobs.specs.Draws.{Draw, shown}
 use Rattle.rulebook.specs.declared.Event.{Event}

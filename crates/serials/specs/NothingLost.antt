@@ -1,8 +1,7 @@
 -- No token is lost: each open series always has one, and a transfer under way can still be delivered.
 -- (That each open series has one is also part of `Serials`, which has to name the next number by it.)
 -- Assumes nothing.
-use Rattle.std.specs.Prelude.{ℕ, ◌<◌, ◌≡◌, true, List}
-use Rattle.words.specs.declared.Answer.TheVariants.{Done}
+use Rattle.std.specs.Prelude.{ℕ, ◌<◌, ◌≡◌, true, List, Ok}
 use Rattle.words.specs.Numbers.{station_count, series_count}
 use Rattle.copies.specs.Tables.{Series, series_at, is_up, kind, value, rel_to, rel_kind, rel_value, sent_count, received}
 use Rattle.copies.specs.Facts.{Open, Undelivered}
@@ -31,7 +30,7 @@ abbrev pub Deliverable : Machine → Run → Type 0
 Deliverable m x =
     (s from : ℕ) → s < series_count → from < station_count → Undelivered (series_after x s) from
     → is_up x.plant.copies (rel_to (series_after x s) from) ≡ true
-    → ((m x.plant x.out (message (series_after x s) s from)).answer ≡ Done 1)
+    → ((m x.plant x.out (message (series_after x s) s from)).answer ≡ Ok 1)
     × Arrived (series_after x s) from (series_at (m x.plant x.out (message (series_after x s) s from)).plant.copies s)
 
 -- THE STATEMENT: so it is after any list of events from the empty plant.

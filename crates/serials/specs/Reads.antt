@@ -1,7 +1,6 @@
 -- Demand 3, the reads: an accepted READ returns first number + all committed counts + the job's own draw.
 -- Assumes nothing.
-use Rattle.std.specs.Prelude.{ℕ, ◌+◌, ◌≡◌, List}
-use Rattle.words.specs.declared.Answer.TheVariants.{Done}
+use Rattle.std.specs.Prelude.{ℕ, ◌+◌, ◌≡◌, List, Ok}
 use Rattle.jobs.specs.Job.{lock_on}
 use Rattle.rulebook.specs.declared.Event.{Event}
 use Rattle.rulebook.specs.Events.{READ, a_series, the, the_series, the_job}
@@ -19,5 +18,5 @@ read_of x e =
 abbrev pub Reads : Machine → Type 0
 Reads m =
     (es : List Event) (e : Event) (v : ℕ) → e.kind ≡ READ
-    → (m (from_empty m es).plant (from_empty m es).out e).answer ≡ Done v
+    → (m (from_empty m es).plant (from_empty m es).out e).answer ≡ Ok v
     → v ≡ read_of (from_empty m es) e

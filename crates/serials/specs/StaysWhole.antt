@@ -1,8 +1,8 @@
 -- Whole tables stay whole, so no list of events from the empty plant gets refusal 2.
 -- Assumes nothing.
-use Rattle.std.specs.Prelude.{ℕ, ◌≡◌, true, List, [], ◌∷◌}
-use Rattle.words.specs.declared.Answer.{Answer}
-use Rattle.words.specs.declared.Answer.TheVariants.{Short, NotWhole}
+use Rattle.std.specs.Prelude.{ℕ, ◌≡◌, true, List, [], ◌∷◌, Err}
+use Rattle.words.specs.Answers.{Answer}
+use Rattle.words.specs.declared.Refusal.TheVariants.{Short, NotWhole}
 use Rattle.rulebook.specs.declared.Event.{Event}
 use Rattle.rulebook.specs.Tables.{Plant}
 use Rattle.rulebook.specs.Whole.{whole}
@@ -24,4 +24,4 @@ abbrev pub StaysWhole : Machine → Type 0
 StaysWhole m =
     KeepsWhole m
     × ((es : List Event)
-    → (whole (from_empty m es).plant ≡ true) × Never Short (from_empty m es).replies × Never NotWhole (from_empty m es).replies)
+    → (whole (from_empty m es).plant ≡ true) × Never (Err Short) (from_empty m es).replies × Never (Err NotWhole) (from_empty m es).replies)

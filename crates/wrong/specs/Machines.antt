@@ -1,9 +1,8 @@
 -- Machines that go wrong in one place, several of them by a slip that looks right.
 -- Assumes nothing.
-use Rattle.std.specs.Prelude.{ℕ, zero, suc, ◌+◌, Bool, cond, List, [], ◌∷◌, eqb, length, take}
-use Rattle.words.specs.declared.Answer.{Answer}
-use Rattle.words.specs.declared.Answer.TheVariants.{Done, Others}
-use Rattle.words.specs.Answers.{code_of}
+use Rattle.std.specs.Prelude.{ℕ, zero, suc, ◌+◌, Bool, cond, List, [], ◌∷◌, eqb, length, take, Ok, Err}
+use Rattle.words.specs.Answers.{Answer, code_of}
+use Rattle.words.specs.declared.Refusal.TheVariants.{Others}
 use Rattle.words.specs.Numbers.{series_count}
 use Rattle.words.specs.Tests.{non, ◌and◌}
 use Rattle.copies.specs.Tables.{Copies, Series, series_at, kind, value, held, stands}
@@ -51,7 +50,7 @@ restarting test change =
 -- these draws are shown and the job closes, but only the first k are stored
 abbrev pub storing : (k : ℕ) → Plant → Event → List Draw → Effect
 storing k p e ds =
-    record { answer = Done (length ds); plant = put_job (with_copies p (committed p.copies (take k ds))) e no_job; draws = ds }
+    record { answer = Ok (length ds); plant = put_job (with_copies p (committed p.copies (take k ds))) e no_job; draws = ds }
 
 -- COMMIT shows the draws and does not raise the copies: the serials are issued again
 abbrev pub commit_unstored : Machine → Machine
@@ -76,7 +75,7 @@ abbrev pub draw_shows : Machine → Machine
 draw_shows =
     doing DRAW
     (λ p e. record {
-      answer = Done 0;
+      answer = Ok 0;
       plant = put_job p e (with_draw (the_job p e) (the a_series e) (the a_count e));
       draws = draw_asked p e ∷ [];
     })
@@ -85,7 +84,7 @@ draw_shows =
 abbrev pub draw_hands_out : Machine → Machine
 draw_hands_out =
     doing DRAW
-    (λ p e. record { answer = Done 0; plant = with_copies p (committed p.copies (draw_asked p e ∷ [])); draws = draw_asked p e ∷ [] })
+    (λ p e. record { answer = Ok 0; plant = with_copies p (committed p.copies (draw_asked p e ∷ [])); draws = draw_asked p e ∷ [] })
 
 -- RESTART puts back the value that a station had in memory when its first draw was noted, the first number, and not the stored one
 abbrev pub restart_from_memory : Machine → Machine
@@ -111,7 +110,7 @@ read_at_zero = doing READ (λ p e. done (value (the_series p e) 0 + (lock_on (th
 -- ---- whole tables
 -- PROMOTE never gets refusal 17: another share may be held, or under way
 abbrev pub promote_early : Machine → Machine
-promote_early = allowing PROMOTE Others
+promote_early = allowing PROMOTE (Err Others)
 
 -- CRASH leaves the station's jobs open
 abbrev pub crash_keeps_jobs : Machine → Machine
@@ -125,7 +124,7 @@ grant_forgets = doing GRANT (λ p e. done 1 p)
 
 -- DROP never gets refusal 17: the last share may be dropped
 abbrev pub drop_last : Machine → Machine
-drop_last = allowing DROP Others
+drop_last = allowing DROP (Err Others)
 
 -- RESTART lets a standing Release void the copy at its station: the token may be back before its ACK
 abbrev pub restart_voids : Machine → Machine
