@@ -14,7 +14,7 @@ use Rattle.words.specs.declared.Refusal.TheVariants.{BadEvent}
 use Rattle.words.specs.Answers.{value_of}
 use Rattle.copies.specs.Tables.{Copies}
 use Rattle.jobs.specs.declared.Job.{Job}
-use Rattle.jobs.specs.declared.Stepped.{Stepped}
+use Rattle.jobs.specs.Calls.{Stepped}
 use Rattle.digits.specs.declared.Wrote.{Wrote}
 use Rattle.digits.specs.declared.Wrote.TheVariants.{To, Full}
 use Rattle.digits.specs.Printing.{wrote_at, written_at}

@@ -19,7 +19,7 @@ use Rattle.copies.specs.Calls.{lacks, beyond}
 use Rattle.copies.proofs.Long.{Long}
 use Rattle.copies.proofs.Reading.{read_kind, read_value, read_beyond}
 use Rattle.jobs.specs.declared.Job.{Job}
-use Rattle.jobs.specs.declared.Stepped.{Stepped}
+use Rattle.jobs.specs.Calls.{Stepped}
 use Rattle.jobs.specs.Job.{job_open, lock_on, locks_series}
 use Rattle.jobs.specs.Slots.{job_at, free}
 use Rattle.jobs.specs.Draws.{entry_there, fits}

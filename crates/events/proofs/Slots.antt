@@ -5,7 +5,7 @@ use mathlib.Core.List.{List}
 use Rattle.words.specs.Answers.{Answer}
 use Rattle.copies.specs.Tables.{Copies}
 use Rattle.jobs.specs.declared.Job.{Job}
-use Rattle.jobs.specs.declared.Stepped.{Stepped}
+use Rattle.jobs.specs.Calls.{Stepped}
 use Rattle.jobs.specs.Calls.{stepped, outcome}
 
 module _ (t : Copies) (out : List ℕ) where

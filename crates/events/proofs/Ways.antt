@@ -13,8 +13,8 @@ use Rattle.words.specs.Tests.{refuse_if}
 use Rattle.copies.specs.Tables.{Copies}
 use Rattle.copies.specs.Calls as copies
 use Rattle.jobs.specs.declared.Job.{Job}
-use Rattle.jobs.specs.declared.Stepped.{Stepped}
-use Rattle.jobs.specs.declared.Turn.{Turn}
+use Rattle.jobs.specs.Calls.{Stepped}
+use Rattle.jobs.specs.Calls.{Turn}
 use Rattle.jobs.specs.Slots.{job_at, free}
 use Rattle.jobs.specs.Calls as jobs
 use Rattle.jobs.proofs.OneSlot.{kept_slot}

@@ -2,7 +2,7 @@
 -- Assumes nothing.
 use Rattle.std.specs.Prelude.{ℕ, List}
 use Rattle.copies.specs.Tables.{Copies}
-use Rattle.jobs.specs.declared.Stepped.{Stepped}
+use Rattle.jobs.specs.Calls.{Stepped}
 use Rattle.rulebook.specs.Tables.{plant}
 use Rattle.rulebook.specs.Steps.{Outcome}
 

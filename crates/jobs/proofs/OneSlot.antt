@@ -7,7 +7,7 @@ use lib.ListN.{set}
 use lib.Seq.{set-get_or}
 use Rattle.words.specs.Answers.{Answer}
 use Rattle.jobs.specs.declared.Job.{Job}
-use Rattle.jobs.specs.declared.Turn.{Turn}
+use Rattle.jobs.specs.Calls.{Turn}
 use Rattle.jobs.specs.Slots.{job_at}
 use Rattle.jobs.specs.Calls.{stepped, turn, turned}
 

@@ -13,11 +13,19 @@ use Rattle.copies.specs.Tables.{Copies, series_at, is_open, is_up}
 use Rattle.copies.specs.Steps.{marked}
 use Rattle.copies.specs.Calls.{lacks, beyond}
 use Rattle.jobs.specs.declared.Job.{Job}
-use Rattle.jobs.specs.declared.Turn.{Turn}
-use Rattle.jobs.specs.declared.Stepped.{Stepped}
 use Rattle.jobs.specs.Job.{no_job, job_open, locks_series, lock_on, is_full, begun, with_lock, with_draw}
 use Rattle.jobs.specs.Slots.{job_at, closed_at, count_at}
 use Rattle.jobs.specs.Draws.{Draw, entry_there, draws_of, committed, shown, fits}
+
+-- What a call leaves of the slots: its answer, and the slots.
+pub record Stepped : Type 0 where
+  pub answer : Answer
+  pub jobs : List Job
+
+-- What a call leaves of one slot: its answer, and the slot's job.
+pub record Turn : Type 0 where
+  pub answer : Answer
+  pub job : Job
 
 -- an answer and the slots
 abbrev pub stepped : Answer → List Job → Stepped

@@ -5,8 +5,8 @@ use Rattle.words.specs.Answers.{Answer}
 use Rattle.words.specs.Results.{OneResult}
 use Rattle.copies.specs.Tables.{Copies}
 use Rattle.jobs.specs.declared.Job.{Job}
-use Rattle.jobs.specs.declared.Stepped.{Stepped}
-use Rattle.jobs.specs.declared.Turn.{Turn}
+use Rattle.jobs.specs.Calls.{Stepped}
+use Rattle.jobs.specs.Calls.{Turn}
 use Rattle.jobs.specs.Slots.{job_at}
 use Rattle.jobs.specs.Calls.{Outcome, outcome, turned}
 

@@ -1,82 +1,70 @@
 // DRAW and READ: what a job does with the series that it locks. No serial leaves the machine here.
 ghost use Rattle.std.specs.Prelude.{◌≡◌, List, ℕ, ◌<◌, ◌≤◌, length};
 ghost use Rattle.words.specs.Numbers.{series_count, place_count};
-ghost use Rattle.copies.specs.Tables.{tables};
+ghost use Rattle.copies.specs.Columns.{seen};
 ghost use Rattle.jobs.specs.declared.Job.{Job};
 ghost use Rattle.jobs.specs.Slots.{job_at};
-ghost use Rattle.jobs.specs.Calls.{turned, draw, draw_in, read, read_in};
+ghost use Rattle.jobs.specs.Calls.{turn, turned, draw, draw_in, read, read_in};
 
-use crate::turns::{became, kept};
-use crate::{Job, Turn};
-use copies::{beyond, is_open, value};
+use crate::Job;
+use copies::{Seen, beyond, is_open, value};
 use words::{Answer, EXCLUSIVE, GREATEST_SERIAL, JOBS, PLACES, Refusal, SERIES, Serial};
 
 // DRAW where refusals 1 and 3 are not given.
-fn draw_in(
-    job: Job,
-    firsts: &[Serial],
-    lasts: &[Serial],
-    values: &[Serial],
-    series: u32,
-    count: Serial,
-) -> Turn
-    requires { (series_count ≤ length firsts.now) × (series < series_count) }
-    ensures { (ks ns rt rk rv gs us : List ℕ) (bs : List Job) (j : ℕ) → job ≡ job_at bs j → turned bs j result ≡ draw_in (tables firsts.now lasts.now ks values.now ns rt rk rv gs us) bs j series count }
+fn draw_in(job: &mut Job, columns: &Seen<'_>, series: u32, count: Serial) -> Answer
+    requires { (series_count ≤ length columns.now.firsts.now) × (series < series_count) }
+    ensures { (bs : List Job) (j : ℕ) → job.old ≡ job_at bs j → turned bs j (turn result job.new) ≡ draw_in (seen columns.now) bs j series count }
 {
-    if !is_open(firsts, series) | !job.is_open() {
-        return kept(job, Err(Refusal::None));
+    if !is_open(columns, series) | !job.is_open() {
+        return Err(Refusal::None);
     }
     let lock = job.lock_on(series);
     if !job.locks_series(series) | (lock.mode != EXCLUSIVE) {
-        return kept(job, Err(Refusal::NoLock));
+        return Err(Refusal::NoLock);
     }
     if lock.drawn != 0 {
-        return kept(job, Err(Refusal::Drawn));
+        return Err(Refusal::Drawn);
     }
-    if beyond(lasts, values, series, job.station, count) {
-        return kept(job, Err(Refusal::Range));
+    if beyond(columns, series, job.station, count) {
+        return Err(Refusal::Range);
     }
-    became(job.note_draw(series, count))
+    *job = job.note_draw(series, count);
+    Ok(0)
 }
 
 // 5 DRAW: notes the count.
-pub fn draw(
-    job: Job,
-    firsts: &[Serial],
-    lasts: &[Serial],
-    values: &[Serial],
-    slot: u32,
-    series: u32,
-    count: Serial,
-) -> Turn
-    ensures { (ks ns rt rk rv gs us : List ℕ) (bs : List Job) → job ≡ job_at bs slot → turned bs slot result ≡ draw (tables firsts.now lasts.now ks values.now ns rt rk rv gs us) bs slot series count }
+pub fn draw(job: &mut Job, columns: &Seen<'_>, slot: u32, series: u32, count: Serial) -> Answer
+    ensures { (bs : List Job) → job.old ≡ job_at bs slot → turned bs slot (turn result job.new) ≡ draw (seen columns.now) bs slot series count }
 {
-    if (firsts.len() < SERIES) | (lasts.len() < SERIES) | (values.len() < PLACES) {
-        return kept(job, Err(Refusal::Short));
+    if (columns.firsts.len() < SERIES)
+        | (columns.lasts.len() < SERIES)
+        | (columns.values.len() < PLACES)
+    {
+        return Err(Refusal::Short);
     }
     if (JOBS <= slot as usize)
         | (SERIES <= series as usize)
         | (count == 0)
         | (GREATEST_SERIAL < count)
     {
-        return kept(job, Err(Refusal::BadEvent));
+        return Err(Refusal::BadEvent);
     }
-    draw_in(job, firsts, lasts, values, series, count)
+    draw_in(job, columns, series, count)
 }
 
 // READ where refusals 1 and 3 are not given.
-fn read_in(job: Job, firsts: &[Serial], values: &[Serial], series: u32) -> Answer
-    requires { (series_count ≤ length firsts.now) × (place_count ≤ length values.now) × (series < series_count) }
-    ensures { (ls ks ns rt rk rv gs us : List ℕ) → result ≡ read_in (tables firsts.now ls ks values.now ns rt rk rv gs us) job series }
+fn read_in(job: Job, columns: &Seen<'_>, series: u32) -> Answer
+    requires { (series_count ≤ length columns.now.firsts.now) × (place_count ≤ length columns.now.values.now) × (series < series_count) }
+    ensures { result ≡ read_in (seen columns.now) job series }
 {
-    if !is_open(firsts, series) | !job.is_open() {
+    if !is_open(columns, series) | !job.is_open() {
         return Err(Refusal::None);
     }
     if !job.locks_series(series) {
         return Err(Refusal::NoLock);
     }
     let lock = job.lock_on(series);
-    let next = value(values, series, job.station);
+    let next = value(columns, series, job.station);
     if GREATEST_SERIAL as u64 + 1 < next as u64 + lock.drawn as u64 {
         return Err(Refusal::NotWhole);
     }
@@ -84,14 +72,14 @@ fn read_in(job: Job, firsts: &[Serial], values: &[Serial], series: u32) -> Answe
 }
 
 // 6 READ: the value of the station's copy and the job's own drawn count.
-pub fn read(job: Job, firsts: &[Serial], values: &[Serial], slot: u32, series: u32) -> Answer
-    ensures { (ls ks ns rt rk rv gs us : List ℕ) (bs : List Job) → job ≡ job_at bs slot → result ≡ read (tables firsts.now ls ks values.now ns rt rk rv gs us) bs slot series }
+pub fn read(job: Job, columns: &Seen<'_>, slot: u32, series: u32) -> Answer
+    ensures { (bs : List Job) → job ≡ job_at bs slot → result ≡ read (seen columns.now) bs slot series }
 {
-    if (firsts.len() < SERIES) | (values.len() < PLACES) {
+    if (columns.firsts.len() < SERIES) | (columns.values.len() < PLACES) {
         return Err(Refusal::Short);
     }
     if (JOBS <= slot as usize) | (SERIES <= series as usize) {
         return Err(Refusal::BadEvent);
     }
-    read_in(job, firsts, values, series)
+    read_in(job, columns, series)
 }

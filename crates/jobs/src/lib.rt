@@ -1,14 +1,13 @@
 // Job records and locks, above the copies. What they mean stands in specs/.
 #![tactic(auto)]
 
-use words::{Answer, JOBS, LOCKS, Serial};
+use words::{LOCKS, Serial};
 
 mod committing;
 mod drawing;
 mod locking;
 mod methods;
 mod slots;
-mod turns;
 mod walk;
 
 pub use committing::commit;
@@ -33,25 +32,4 @@ pub struct Job {
     pub mark: u32,
     pub station: u32,
     pub locks: [Lock; LOCKS],
-}
-
-// What a call over one slot gives back: its answer, and the slot's job.
-#[derive(Clone, Copy)]
-pub struct Turn {
-    pub answer: Answer,
-    pub job: Job,
-}
-
-// What a call over the sixteen slots gives back: its answer, and the slots.
-#[derive(Clone, Copy)]
-pub struct Stepped {
-    pub answer: Answer,
-    pub jobs: [Job; JOBS],
-}
-
-// The slots after a station's jobs were closed, and how many were.
-#[derive(Clone, Copy)]
-pub struct Closed {
-    pub jobs: [Job; JOBS],
-    pub count: u32,
 }

@@ -1,100 +1,101 @@
 // BEGIN, LOCKX, LOCKS and ABORT: a job opens, locks, and closes with its copies unchanged.
-ghost use Rattle.std.specs.Prelude.{◌≡◌, List, ℕ, ◌<◌, ◌≤◌, length};
+ghost use Rattle.std.specs.Prelude.{◌≡◌, List, ◌<◌, ◌≤◌, length};
 ghost use Rattle.words.specs.Numbers.{series_count, place_count};
-ghost use Rattle.copies.specs.Tables.{tables};
+ghost use Rattle.copies.specs.Columns.{seen};
 ghost use Rattle.jobs.specs.declared.Job.{Job};
 ghost use Rattle.jobs.specs.Slots.{job_at};
-ghost use Rattle.jobs.specs.Calls.{turned, begin, lock_in, lockx, locks, abort};
+ghost use Rattle.jobs.specs.Calls.{turn, turned, begin, lock_in, lockx, locks, abort};
 
-use crate::turns::{became, kept};
-use crate::{Job, Turn};
-use copies::{is_open, is_up, kind};
-use words::{EXCLUSIVE, JOBS, PLACES, Refusal, SERIES, SHARE, STATIONS, Serial};
+use crate::Job;
+use copies::{Seen, is_open, is_up, kind};
+use words::{Answer, EXCLUSIVE, JOBS, PLACES, Refusal, SERIES, SHARE, STATIONS};
 
 // 2 BEGIN: the job opens with no lock.
-pub fn begin(job: Job, up: &[u32], slot: u32, station: u32) -> Turn
-    ensures { (fs ls ks vs ns rt rk rv gs : List ℕ) (bs : List Job) → job ≡ job_at bs slot → turned bs slot result ≡ begin (tables fs ls ks vs ns rt rk rv gs up.now) bs slot station }
+pub fn begin(job: &mut Job, columns: &Seen<'_>, slot: u32, station: u32) -> Answer
+    ensures { (bs : List Job) → job.old ≡ job_at bs slot → turned bs slot (turn result job.new) ≡ begin (seen columns.now) bs slot station }
 {
-    if up.len() < STATIONS {
-        return kept(job, Err(Refusal::Short));
+    if columns.up.len() < STATIONS {
+        return Err(Refusal::Short);
     }
     if (JOBS <= slot as usize) | (STATIONS <= station as usize) {
-        return kept(job, Err(Refusal::BadEvent));
+        return Err(Refusal::BadEvent);
     }
     if job.is_open() {
-        return kept(job, Err(Refusal::Taken));
+        return Err(Refusal::Taken);
     }
-    if !is_up(up, station) {
-        return kept(job, Err(Refusal::Down));
+    if !is_up(columns, station) {
+        return Err(Refusal::Down);
     }
-    became(Job::begun(station))
+    *job = Job::begun(station);
+    Ok(0)
 }
 
 // A lock where refusals 1 and 3 are not given: of the mode, on a copy of that kind.
-fn lock_in(job: Job, firsts: &[Serial], kinds: &[u32], free: bool, series: u32, mode: u32) -> Turn
-    requires { (series_count ≤ length firsts.now) × (place_count ≤ length kinds.now) × (series < series_count) }
-    ensures { (ls vs ns rt rk rv gs us : List ℕ) (bs : List Job) (j : ℕ) → job ≡ job_at bs j → turned bs j result ≡ lock_in (tables firsts.now ls kinds.now vs ns rt rk rv gs us) bs free j series mode }
+fn lock_in(job: &mut Job, columns: &Seen<'_>, free: bool, series: u32, mode: u32) -> Answer
+    requires { (series_count ≤ length columns.now.firsts.now) × (place_count ≤ length columns.now.kinds.now) × (series < series_count) }
+    ensures { (bs : List Job) (j : ℕ) → job.old ≡ job_at bs j → turned bs j (turn result job.new) ≡ lock_in (seen columns.now) bs free j series mode }
 {
-    if !is_open(firsts, series) | !job.is_open() {
-        return kept(job, Err(Refusal::None));
+    if !is_open(columns, series) | !job.is_open() {
+        return Err(Refusal::None);
     }
     if job.locks_series(series) {
-        return kept(job, Err(Refusal::Held));
+        return Err(Refusal::Held);
     }
     if job.is_full() {
-        return kept(job, Err(Refusal::Full));
+        return Err(Refusal::Full);
     }
-    if kind(kinds, series, job.station) != mode {
-        return kept(job, Err(Refusal::Copy));
+    if kind(columns, series, job.station) != mode {
+        return Err(Refusal::Copy);
     }
     if !free {
-        return kept(job, Err(Refusal::Locked));
+        return Err(Refusal::Locked);
     }
-    became(job.add_lock(series, mode))
+    *job = job.add_lock(series, mode);
+    Ok(0)
 }
 
 // 3 LOCKX: needs a free exclusive copy; whether it is free, the caller has asked of the sixteen slots (`is_free`).
 pub fn lock_exclusive(
-    job: Job,
-    firsts: &[Serial],
-    kinds: &[u32],
+    job: &mut Job,
+    columns: &Seen<'_>,
     free: bool,
     slot: u32,
     series: u32,
-) -> Turn
-    ensures { (ls vs ns rt rk rv gs us : List ℕ) (bs : List Job) → job ≡ job_at bs slot → turned bs slot result ≡ lockx (tables firsts.now ls kinds.now vs ns rt rk rv gs us) bs free slot series }
+) -> Answer
+    ensures { (bs : List Job) → job.old ≡ job_at bs slot → turned bs slot (turn result job.new) ≡ lockx (seen columns.now) bs free slot series }
 {
-    if (firsts.len() < SERIES) | (kinds.len() < PLACES) {
-        return kept(job, Err(Refusal::Short));
+    if (columns.firsts.len() < SERIES) | (columns.kinds.len() < PLACES) {
+        return Err(Refusal::Short);
     }
     if (JOBS <= slot as usize) | (SERIES <= series as usize) {
-        return kept(job, Err(Refusal::BadEvent));
+        return Err(Refusal::BadEvent);
     }
-    lock_in(job, firsts, kinds, free, series, EXCLUSIVE)
+    lock_in(job, columns, free, series, EXCLUSIVE)
 }
 
 // 4 LOCKS: needs a share copy, which other jobs may lock too.
-pub fn lock_share(job: Job, firsts: &[Serial], kinds: &[u32], slot: u32, series: u32) -> Turn
-    ensures { (ls vs ns rt rk rv gs us : List ℕ) (bs : List Job) → job ≡ job_at bs slot → turned bs slot result ≡ locks (tables firsts.now ls kinds.now vs ns rt rk rv gs us) bs slot series }
+pub fn lock_share(job: &mut Job, columns: &Seen<'_>, slot: u32, series: u32) -> Answer
+    ensures { (bs : List Job) → job.old ≡ job_at bs slot → turned bs slot (turn result job.new) ≡ locks (seen columns.now) bs slot series }
 {
-    if (firsts.len() < SERIES) | (kinds.len() < PLACES) {
-        return kept(job, Err(Refusal::Short));
+    if (columns.firsts.len() < SERIES) | (columns.kinds.len() < PLACES) {
+        return Err(Refusal::Short);
     }
     if (JOBS <= slot as usize) | (SERIES <= series as usize) {
-        return kept(job, Err(Refusal::BadEvent));
+        return Err(Refusal::BadEvent);
     }
-    lock_in(job, firsts, kinds, true, series, SHARE)
+    lock_in(job, columns, true, series, SHARE)
 }
 
 // 8 ABORT: the job closes.
-pub fn abort(job: Job, slot: u32) -> Turn
-    ensures { (bs : List Job) → job ≡ job_at bs slot → turned bs slot result ≡ abort bs slot }
+pub fn abort(job: &mut Job, slot: u32) -> Answer
+    ensures { (bs : List Job) → job.old ≡ job_at bs slot → turned bs slot (turn result job.new) ≡ abort bs slot }
 {
     if JOBS <= slot as usize {
-        return kept(job, Err(Refusal::BadEvent));
+        return Err(Refusal::BadEvent);
     }
     if !job.is_open() {
-        return kept(job, Err(Refusal::None));
+        return Err(Refusal::None);
     }
-    became(job.close())
+    *job = job.close();
+    Ok(0)
 }

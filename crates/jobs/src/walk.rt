@@ -2,17 +2,15 @@
 ghost use Rattle.std.specs.Prelude.{◌≡◌, List, cond, ℕ, ◌<◌, ◌≤◌, eqb, length};
 ghost use Rattle.words.specs.Numbers.{station_count, series_count, job_count, lock_count, place_count};
 ghost use Rattle.words.specs.Tests.{non, ◌and◌, all_below};
-ghost use Rattle.copies.specs.Tables.{tables};
+ghost use Rattle.copies.specs.Columns.{seen};
 ghost use Rattle.jobs.specs.Job.{lock_at, is_used};
 ghost use Rattle.jobs.specs.Slots.{job_at};
 ghost use Rattle.jobs.specs.Whole.{W1_lock, W1_job, W4_differs, W4_lock, W4_locks, meets, W4_alone, W4_job, W5_lock, W5_job};
 ghost use Rattle.jobs.specs.FirstBroken.{broken_job, first_broken_job, check_jobs};
 
 use crate::{Job, Lock};
-use copies::{beyond, is_open, is_up, kind};
-use words::{
-    EXCLUSIVE, Flaw, GREATEST_SERIAL, JOBS, LOCKS, PLACES, Rule, SERIES, SHARE, STATIONS, Serial,
-};
+use copies::{Seen, beyond, is_open, is_up, kind};
+use words::{EXCLUSIVE, Flaw, GREATEST_SERIAL, JOBS, LOCKS, PLACES, Rule, SERIES, SHARE, STATIONS};
 
 // W1 of a lock place.
 fn lock_in_range(lock: Lock) -> bool
@@ -46,25 +44,18 @@ pub fn differs(job: Job, i: usize) -> bool
 }
 
 // W4 of lock place i by itself.
-fn lock_fine(
-    job: Job,
-    firsts: &[Serial],
-    lasts: &[Serial],
-    kinds: &[u32],
-    values: &[Serial],
-    i: usize,
-) -> bool
-    requires { (series_count ≤ length firsts.now) × (series_count ≤ length lasts.now) × (place_count ≤ length kinds.now) × (place_count ≤ length values.now) × (job.station < station_count) × ((lock_at job i).series < series_count) × (i < lock_count) }
-    ensures { (ns rt rk rv gs us : List ℕ) → result ≡ W4_lock (tables firsts.now lasts.now kinds.now values.now ns rt rk rv gs us) job i }
+fn lock_fine(job: Job, columns: &Seen<'_>, i: usize) -> bool
+    requires { (series_count ≤ length columns.now.firsts.now) × (series_count ≤ length columns.now.lasts.now) × (place_count ≤ length columns.now.kinds.now) × (place_count ≤ length columns.now.values.now) × (job.station < station_count) × ((lock_at job i).series < series_count) × (i < lock_count) }
+    ensures { result ≡ W4_lock (seen columns.now) job i }
 {
     let lock = job.locks[i];
     if lock.mode == 0 {
         return true;
     }
-    let fine = is_open(firsts, lock.series) & differs(job, i);
-    let here = kind(kinds, lock.series, job.station);
+    let fine = is_open(columns, lock.series) & differs(job, i);
+    let here = kind(columns, lock.series, job.station);
     if lock.mode == EXCLUSIVE {
-        let within = !beyond(lasts, values, lock.series, job.station, lock.drawn);
+        let within = !beyond(columns, lock.series, job.station, lock.drawn);
         return fine & ((here == EXCLUSIVE) & within);
     }
     if lock.mode == SHARE {
@@ -74,19 +65,13 @@ fn lock_fine(
 }
 
 // W4 of the four lock places.
-fn locks_fine(
-    job: Job,
-    firsts: &[Serial],
-    lasts: &[Serial],
-    kinds: &[u32],
-    values: &[Serial],
-) -> bool
-    requires { (series_count ≤ length firsts.now) × (series_count ≤ length lasts.now) × (place_count ≤ length kinds.now) × (place_count ≤ length values.now) × (job.station < station_count) × ((i : ℕ) → i < lock_count → (lock_at job i).series < series_count) }
-    ensures { (ns rt rk rv gs us : List ℕ) → result ≡ W4_locks (tables firsts.now lasts.now kinds.now values.now ns rt rk rv gs us) job }
+fn locks_fine(job: Job, columns: &Seen<'_>) -> bool
+    requires { (series_count ≤ length columns.now.firsts.now) × (series_count ≤ length columns.now.lasts.now) × (place_count ≤ length columns.now.kinds.now) × (place_count ≤ length columns.now.values.now) × (job.station < station_count) × ((i : ℕ) → i < lock_count → (lock_at job i).series < series_count) }
+    ensures { result ≡ W4_locks (seen columns.now) job }
 {
     let mut all = true;
     for i in 0..LOCKS {
-        all = all & lock_fine(job, firsts, lasts, kinds, values, i);
+        all = all & lock_fine(job, columns, i);
     }
     all
 }
@@ -107,9 +92,9 @@ fn meets(job: Job, other: Job) -> bool
 }
 
 // W4: whether no other job locks what job j locks exclusively.
-fn alone(jobs: [Job; JOBS], j: usize) -> bool
+fn alone(jobs: &[Job; JOBS], j: usize) -> bool
     requires { j < job_count }
-    ensures { result ≡ W4_alone jobs j }
+    ensures { result ≡ W4_alone jobs.now j }
 {
     let job = jobs[j];
     let mut all = true;
@@ -167,41 +152,25 @@ fn unused_fine(job: Job) -> bool
 }
 
 // W4 of a job whose numbers are in range; `apart` says that no other job locks what it locks exclusively.
-fn open_fine(
-    job: Job,
-    firsts: &[Serial],
-    lasts: &[Serial],
-    kinds: &[u32],
-    values: &[Serial],
-    up: &[u32],
-    apart: bool,
-) -> bool
-    requires { (series_count ≤ length firsts.now) × (series_count ≤ length lasts.now) × (place_count ≤ length kinds.now) × (place_count ≤ length values.now) × (station_count ≤ length up.now) × (job.station < station_count) × ((i : ℕ) → i < lock_count → (lock_at job i).series < series_count) }
-    ensures { (ns rt rk rv gs : List ℕ) (bs : List Job) (j : ℕ) → job ≡ job_at bs j → apart ≡ W4_alone bs j → result ≡ W4_job (tables firsts.now lasts.now kinds.now values.now ns rt rk rv gs up.now) bs j }
+fn open_fine(job: Job, columns: &Seen<'_>, apart: bool) -> bool
+    requires { (series_count ≤ length columns.now.firsts.now) × (series_count ≤ length columns.now.lasts.now) × (place_count ≤ length columns.now.kinds.now) × (place_count ≤ length columns.now.values.now) × (station_count ≤ length columns.now.up.now) × (job.station < station_count) × ((i : ℕ) → i < lock_count → (lock_at job i).series < series_count) }
+    ensures { (bs : List Job) (j : ℕ) → job ≡ job_at bs j → apart ≡ W4_alone bs j → result ≡ W4_job (seen columns.now) bs j }
 {
     if !job.is_open() {
         return true;
     }
-    is_up(up, job.station) & locks_fine(job, firsts, lasts, kinds, values) & apart
+    is_up(columns, job.station) & locks_fine(job, columns) & apart
 }
 
 // The first rule that a job breaks; `apart` says that no other job locks what it locks exclusively.
-fn job_rule(
-    job: Job,
-    firsts: &[Serial],
-    lasts: &[Serial],
-    kinds: &[u32],
-    values: &[Serial],
-    up: &[u32],
-    apart: bool,
-) -> Option<Rule>
-    requires { (series_count ≤ length firsts.now) × (series_count ≤ length lasts.now) × (place_count ≤ length kinds.now) × (place_count ≤ length values.now) × (station_count ≤ length up.now) }
-    ensures { (ns rt rk rv gs : List ℕ) (bs : List Job) (j : ℕ) → job ≡ job_at bs j → apart ≡ W4_alone bs j → result ≡ broken_job (tables firsts.now lasts.now kinds.now values.now ns rt rk rv gs up.now) bs j }
+fn job_rule(job: Job, columns: &Seen<'_>, apart: bool) -> Option<Rule>
+    requires { (series_count ≤ length columns.now.firsts.now) × (series_count ≤ length columns.now.lasts.now) × (place_count ≤ length columns.now.kinds.now) × (place_count ≤ length columns.now.values.now) × (station_count ≤ length columns.now.up.now) }
+    ensures { (bs : List Job) (j : ℕ) → job ≡ job_at bs j → apart ≡ W4_alone bs j → result ≡ broken_job (seen columns.now) bs j }
 {
     if !in_range(job) {
         return Some(Rule::W1);
     }
-    if !open_fine(job, firsts, lasts, kinds, values, up, apart) {
+    if !open_fine(job, columns, apart) {
         return Some(Rule::W4);
     }
     if !unused_fine(job) {
@@ -211,16 +180,9 @@ fn job_rule(
 }
 
 // The first rule that the slots break.
-fn broken_rule(
-    jobs: [Job; JOBS],
-    firsts: &[Serial],
-    lasts: &[Serial],
-    kinds: &[u32],
-    values: &[Serial],
-    up: &[u32],
-) -> Option<Rule>
-    requires { (series_count ≤ length firsts.now) × (series_count ≤ length lasts.now) × (place_count ≤ length kinds.now) × (place_count ≤ length values.now) × (station_count ≤ length up.now) }
-    ensures { (ns rt rk rv gs : List ℕ) → result ≡ first_broken_job (tables firsts.now lasts.now kinds.now values.now ns rt rk rv gs up.now) jobs }
+fn broken_rule(jobs: &[Job; JOBS], columns: &Seen<'_>) -> Option<Rule>
+    requires { (series_count ≤ length columns.now.firsts.now) × (series_count ≤ length columns.now.lasts.now) × (place_count ≤ length columns.now.kinds.now) × (place_count ≤ length columns.now.values.now) × (station_count ≤ length columns.now.up.now) }
+    ensures { result ≡ first_broken_job (seen columns.now) jobs.now }
 {
     for j in 0..JOBS {
         let job = jobs[j];
@@ -229,7 +191,7 @@ fn broken_rule(
         if unused {
             continue;
         }
-        if let Some(rule) = job_rule(job, firsts, lasts, kinds, values, up, alone(jobs, j)) {
+        if let Some(rule) = job_rule(job, columns, alone(jobs, j)) {
             return Some(rule);
         }
     }
@@ -237,25 +199,18 @@ fn broken_rule(
 }
 
 // What the walk finds wrong in the slots and in tables of any size.
-pub fn first_broken_job(
-    jobs: [Job; JOBS],
-    firsts: &[Serial],
-    lasts: &[Serial],
-    kinds: &[u32],
-    values: &[Serial],
-    up: &[u32],
-) -> Result<(), Flaw>
-    ensures { (ns rt rk rv gs : List ℕ) → result ≡ check_jobs (tables firsts.now lasts.now kinds.now values.now ns rt rk rv gs up.now) jobs }
+pub fn first_broken_job(jobs: &[Job; JOBS], columns: &Seen<'_>) -> Result<(), Flaw>
+    ensures { result ≡ check_jobs (seen columns.now) jobs.now }
 {
-    let short = (firsts.len() < SERIES)
-        | (lasts.len() < SERIES)
-        | (kinds.len() < PLACES)
-        | (values.len() < PLACES)
-        | (up.len() < STATIONS);
+    let short = (columns.firsts.len() < SERIES)
+        | (columns.lasts.len() < SERIES)
+        | (columns.kinds.len() < PLACES)
+        | (columns.values.len() < PLACES)
+        | (columns.up.len() < STATIONS);
     if short {
         return Err(Flaw::Short);
     }
-    if let Some(rule) = broken_rule(jobs, firsts, lasts, kinds, values, up) {
+    if let Some(rule) = broken_rule(jobs, columns) {
         return Err(Flaw::Broken(rule));
     }
     Ok(())

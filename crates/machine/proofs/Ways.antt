@@ -15,7 +15,7 @@ use Rattle.words.specs.Tests.{non, ◌or◌}
 use Rattle.words.proofs.Laws.{or_true}
 use Rattle.copies.specs.Tables.{Copies}
 use Rattle.jobs.specs.declared.Job.{Job}
-use Rattle.jobs.specs.declared.Stepped.{Stepped}
+use Rattle.jobs.specs.Calls.{Stepped}
 use Rattle.jobs.specs.Draws.{shown}
 use Rattle.jobs.specs.Calls.{stepped}
 use Rattle.rulebook.specs.declared.Event.{Event}

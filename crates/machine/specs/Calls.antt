@@ -3,7 +3,7 @@
 use Rattle.std.specs.Prelude.{ℕ, Bool, true, false, cond, List, [], replicate}
 use Rattle.std.proofs.lemmas.List.Edits.{sets}
 use Rattle.copies.specs.Tables.{Copies, short_copies}
-use Rattle.jobs.specs.declared.Stepped.{Stepped}
+use Rattle.jobs.specs.Calls.{Stepped}
 use Rattle.rulebook.specs.Tables.{plant}
 use Rattle.rulebook.specs.Steps.{Effect}
 use Rattle.rulebook.specs.Around.{emptied_copies}

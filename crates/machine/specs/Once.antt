@@ -4,7 +4,7 @@
 use Rattle.std.specs.Prelude.{ℕ, ◌≡◌, List}
 use Rattle.words.specs.Results.{OneResult}
 use Rattle.copies.specs.Tables.{Copies}
-use Rattle.jobs.specs.declared.Stepped.{Stepped}
+use Rattle.jobs.specs.Calls.{Stepped}
 use Rattle.rulebook.specs.declared.Event.{Event}
 use Rattle.rulebook.specs.declared.Holders.{Holders}
 use Rattle.rulebook.specs.Tables.{Plant}

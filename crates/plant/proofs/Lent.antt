@@ -15,7 +15,7 @@ use Rattle.words.specs.declared.Refusal.TheVariants.{Short}
 use Rattle.words.proofs.Laws.{or_true}
 use Rattle.copies.specs.Tables.{Copies}
 use Rattle.jobs.specs.declared.Job.{Job}
-use Rattle.jobs.specs.declared.Stepped.{Stepped}
+use Rattle.jobs.specs.Calls.{Stepped}
 use Rattle.jobs.specs.Job.{no_job}
 use Rattle.jobs.specs.Slots.{short_jobs}
 use Rattle.jobs.specs.Draws.{shown}
