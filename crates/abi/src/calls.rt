@@ -8,6 +8,7 @@ ghost use Rattle.abi.specs.Calls.{left, left_of, made, made_of, holders_said_of}
 
 use crate::telling::{holders_said, said};
 use crate::{HoldersSaid, Said};
+use copies::{Lent, Seen};
 use jobs::Job;
 use rulebook::Event;
 use words::Serial;
@@ -30,9 +31,8 @@ pub extern "C" fn druvisha_empty(
     ensures { made result (plant (tables firsts.new lasts.new kinds.new values.new sent.new relto.new relkind.new relvalue.new received.new up.new) jobs.new)
         ≡ made_of (empty_of (plant (tables firsts.old lasts.old kinds.old values.old sent.old relto.old relkind.old relvalue.old received.old up.old) jobs.old)) }
 {
-    said(plant::empty(
-        jobs, firsts, lasts, kinds, values, sent, relto, relkind, relvalue, received, up,
-    ))
+    let mut columns = Lent { firsts, lasts, kinds, values, sent, relto, relkind, relvalue, received, up };
+    said(plant::empty(jobs, &mut columns))
 }
 
 // The step: an event, the tables, the output.
@@ -55,10 +55,8 @@ pub extern "C" fn druvisha_step(
     ensures { left result (plant (tables firsts.new lasts.new kinds.new values.new sent.new relto.new relkind.new relvalue.new received.new up.new) jobs.new) out.new
         ≡ left_of (step_of (plant (tables firsts.old lasts.old kinds.old values.old sent.old relto.old relkind.old relvalue.old received.old up.old) jobs.old) out.old event) }
 {
-    said(plant::step(
-        jobs, firsts, lasts, kinds, values, sent, relto, relkind, relvalue, received, up, out,
-        event,
-    ))
+    let mut columns = Lent { firsts, lasts, kinds, values, sent, relto, relkind, relvalue, received, up };
+    said(plant::step(jobs, &mut columns, out, event))
 }
 
 // The holders of a series.
@@ -79,7 +77,6 @@ pub extern "C" fn druvisha_holders(
 ) -> HoldersSaid
     ensures { result ≡ holders_said_of (holders_of (plant (tables firsts.now lasts.now kinds.now values.now sent.now relto.now relkind.now relvalue.now received.now up.now) jobs.now) series) }
 {
-    holders_said(plant::holders(
-        jobs, firsts, lasts, kinds, values, sent, relto, relkind, relvalue, received, up, series,
-    ))
+    let columns = Seen { firsts, lasts, kinds, values, sent, relto, relkind, relvalue, received, up };
+    holders_said(plant::holders(jobs, &columns, series))
 }

@@ -1,10 +1,9 @@
 // The slot that an event names, and whether the copy that it is about is free.
 ghost use Rattle.std.specs.Prelude.{◌≡◌, ◌<◌};
 ghost use Rattle.words.specs.Numbers.{job_count};
-ghost use Rattle.jobs.specs.Calls.{turned};
 ghost use Rattle.events.specs.Unchecked.{slot_of, asks_free, free_for};
 
-use jobs::{Job, Stepped, Turn, is_free};
+use jobs::{Job, is_free};
 use rulebook::{DEMOTE, DROP, Event, LOCKX, PROMOTE, SEND};
 use words::JOBS;
 
@@ -16,8 +15,8 @@ pub fn asks_free(kind: u32) -> bool
 }
 
 // Whether the copy that an event is about is free, as far as its kind asks: of LOCKX the one at the job's station.
-pub fn free_for(jobs: [Job; JOBS], job: Job, event: Event) -> bool
-    ensures { result ≡ free_for jobs job event }
+pub fn free_for(jobs: &[Job; JOBS], job: Job, event: Event) -> bool
+    ensures { result ≡ free_for jobs.now job event }
 {
     if !asks_free(event.kind) {
         return true;
@@ -37,16 +36,4 @@ pub fn slot_of(event: Event) -> usize
         return a;
     }
     0
-}
-
-// The slots with one as a turn leaves it.
-pub fn with_turn(jobs: [Job; JOBS], at: usize, turn: Turn) -> Stepped
-    requires { at < job_count }
-    ensures { result ≡ turned jobs at turn }
-{
-    let answer = turn.answer;
-    let job = turn.job;
-    let mut all = jobs;
-    all[at] = job;
-    Stepped { answer, jobs: all }
 }

@@ -3,6 +3,7 @@ ghost use Rattle.std.specs.Prelude.{◌≡◌};
 ghost use Rattle.gauge.specs.Accepted.{accepted_of};
 
 use crate::counting::count_accepted;
+use copies::Lent;
 use jobs::Job;
 use words::{JOBS, OUTPUT, PLACES, RECEIVED, SERIES, STATIONS, Serial};
 
@@ -12,7 +13,7 @@ use words::{JOBS, OUTPUT, PLACES, RECEIVED, SERIES, STATIONS, Serial};
 pub extern "C" fn gauge_accepted(numbers: &[u32]) -> usize
     ensures { result ≡ accepted_of numbers.now }
 {
-    let unused = Job::begun(0).close();
+    let mut jobs = [Job::begun(0).close(); JOBS];
     let mut firsts: [Serial; SERIES] = [0; SERIES];
     let mut lasts: [Serial; SERIES] = [0; SERIES];
     let mut kinds: [u32; PLACES] = [0; PLACES];
@@ -24,19 +25,17 @@ pub extern "C" fn gauge_accepted(numbers: &[u32]) -> usize
     let mut received: [u32; RECEIVED] = [0; RECEIVED];
     let mut up: [u32; STATIONS] = [1; STATIONS];
     let mut out: [Serial; OUTPUT] = [0; OUTPUT];
-    count_accepted(
-        numbers,
-        [unused; JOBS],
-        &mut firsts,
-        &mut lasts,
-        &mut kinds,
-        &mut values,
-        &mut sent,
-        &mut relto,
-        &mut relkind,
-        &mut relvalue,
-        &mut received,
-        &mut up,
-        &mut out,
-    )
+    let mut columns = Lent {
+        firsts: &mut firsts,
+        lasts: &mut lasts,
+        kinds: &mut kinds,
+        values: &mut values,
+        sent: &mut sent,
+        relto: &mut relto,
+        relkind: &mut relkind,
+        relvalue: &mut relvalue,
+        received: &mut received,
+        up: &mut up,
+    };
+    count_accepted(numbers, &mut jobs, &mut columns, &mut out)
 }

@@ -1,7 +1,8 @@
 // Who holds a series, as a station set with its count and its lowest station. Refusals 1, 2, 3 and 5.
-ghost use Rattle.std.specs.Prelude.{◌≡◌, [], ◌≤◌, length};
+ghost use Rattle.std.specs.Prelude.{◌≡◌, ◌≤◌, length};
 ghost use Rattle.words.specs.Numbers.{series_count, place_count};
-ghost use Rattle.copies.specs.Tables.{tables, series_in};
+ghost use Rattle.copies.specs.Columns.{seen};
+ghost use Rattle.copies.specs.Tables.{series_at};
 ghost use Rattle.rulebook.specs.Tables.{plant};
 ghost use Rattle.rulebook.specs.Around.{no_holders, holders_there, holders_of};
 ghost use Rattle.machine.specs.Holding.{by_set};
@@ -10,7 +11,7 @@ use crate::whole::check;
 use copies::{Seen, is_open};
 use jobs::Job;
 use rulebook::Holders;
-use words::{Answer, Flaw, JOBS, Refusal, SERIES, Serial};
+use words::{Answer, JOBS, Refusal, SERIES};
 
 // A refusal, with all three 0.
 pub fn no_holders(answer: Answer) -> Holders
@@ -37,53 +38,27 @@ fn counted(set: u8) -> Holders
 }
 
 // The holders where the tables are whole: refusals 3 and 5 are left.
-fn holders_in(firsts: &[Serial], kinds: &[u32], series: u32) -> Holders
-    requires { (series_count ≤ length firsts.now) × (place_count ≤ length kinds.now) }
-    ensures { result ≡ holders_there (series_in firsts.now [] kinds.now [] [] [] [] [] [] series) series }
+fn holders_in(columns: &Seen<'_>, series: u32) -> Holders
+    requires { (series_count ≤ length columns.now.firsts.now) × (place_count ≤ length columns.now.kinds.now) }
+    ensures { result ≡ holders_there (series_at (seen columns.now) series) series }
 {
     let missing = SERIES <= series as usize;
-    let opened = is_open(firsts, series);
+    let opened = is_open(columns, series);
     if missing {
         return no_holders(Err(Refusal::BadEvent));
     }
     if !opened {
         return no_holders(Err(Refusal::None));
     }
-    counted(copies::holders(kinds, series))
+    counted(copies::holders(columns, series))
 }
 
 // The holders of a series, in tables of any size. The check comes first: refusals 1 and 2.
-pub fn holders(
-    jobs: [Job; JOBS],
-    firsts: &[Serial],
-    lasts: &[Serial],
-    kinds: &[u32],
-    values: &[Serial],
-    sent: &[u32],
-    relto: &[u32],
-    relkind: &[u32],
-    relvalue: &[Serial],
-    received: &[u32],
-    up: &[u32],
-    series: u32,
-) -> Holders
-    ensures { result ≡ holders_of (plant (tables firsts.now lasts.now kinds.now values.now sent.now relto.now relkind.now relvalue.now received.now up.now) jobs) series }
+pub fn holders(jobs: &[Job; JOBS], columns: &Seen<'_>, series: u32) -> Holders
+    ensures { result ≡ holders_of (plant (seen columns.now) jobs.now) series }
 {
-    let columns = Seen {
-        firsts,
-        lasts,
-        kinds,
-        values,
-        sent,
-        relto,
-        relkind,
-        relvalue,
-        received,
-        up,
-    };
-    match check(jobs, &columns) {
-        Err(Flaw::Short) => no_holders(Err(Refusal::Short)),
-        Err(Flaw::Broken(_)) => no_holders(Err(Refusal::NotWhole)),
-        Ok(()) => holders_in(firsts, kinds, series),
+    match check(jobs, columns) {
+        Ok(()) => holders_in(columns, series),
+        Err(flaw) => no_holders(Err(Refusal::from(flaw))),
     }
 }

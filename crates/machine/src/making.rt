@@ -1,97 +1,56 @@
 // An empty plant in lent tables.
 ghost use Rattle.std.specs.Prelude.{◌≡◌};
-ghost use Rattle.copies.specs.Tables.{tables};
+ghost use Rattle.copies.specs.Columns.{lent, SameColumns};
+ghost use Rattle.jobs.specs.Calls.{stepped};
 ghost use Rattle.rulebook.specs.Tables.{plant};
 ghost use Rattle.rulebook.specs.Around.{empty_of};
-ghost use Rattle.machine.specs.Calls.{made, cleared, clear_of, filled};
+ghost use Rattle.machine.specs.Calls.{made, cleared, clear_of};
 
-use jobs::{Job, Stepped};
-use words::{JOBS, PLACES, RECEIVED, Refusal, SERIES, STATIONS, Serial};
-
-// Writes a number at the first so many entries of a column, or at all where it has fewer.
-fn fill(column: &mut [u32], size: usize, number: u32)
-    ensures { column.new ≡ filled size number column.old }
-{
-    for i in 0..size {
-        if column.len() <= i {
-            return;
-        }
-        column[i] = number;
-    }
-}
+use copies::Lent;
+use jobs::Job;
+use words::{Answer, JOBS, PLACES, RECEIVED, Refusal, SERIES, STATIONS};
 
 // Makes the columns those of an empty plant: no series, all stations up. Where one is short none is touched, and the answer is no; extra
 // entries stay.
-pub fn clear(
-    firsts: &mut [Serial],
-    lasts: &mut [Serial],
-    kinds: &mut [u32],
-    values: &mut [Serial],
-    sent: &mut [u32],
-    relto: &mut [u32],
-    relkind: &mut [u32],
-    relvalue: &mut [Serial],
-    received: &mut [u32],
-    up: &mut [u32],
-) -> bool
-    ensures { cleared result (tables firsts.new lasts.new kinds.new values.new sent.new relto.new relkind.new relvalue.new received.new up.new)
-        ≡ clear_of (tables firsts.old lasts.old kinds.old values.old sent.old relto.old relkind.old relvalue.old received.old up.old) }
+pub fn clear(columns: &mut Lent<'_>) -> bool
+    ensures same { SameColumns columns.old columns.new }
+    ensures leaves { cleared result (lent columns.new) ≡ clear_of (lent columns.old) }
 {
-    if (firsts.len() < SERIES)
-        | (lasts.len() < SERIES)
-        | (kinds.len() < PLACES)
-        | (values.len() < PLACES)
-        | (sent.len() < PLACES)
-        | (relto.len() < PLACES)
-        | (relkind.len() < PLACES)
-        | (relvalue.len() < PLACES)
-        | (received.len() < RECEIVED)
-        | (up.len() < STATIONS)
+    if (columns.firsts.len() < SERIES)
+        | (columns.lasts.len() < SERIES)
+        | (columns.kinds.len() < PLACES)
+        | (columns.values.len() < PLACES)
+        | (columns.sent.len() < PLACES)
+        | (columns.relto.len() < PLACES)
+        | (columns.relkind.len() < PLACES)
+        | (columns.relvalue.len() < PLACES)
+        | (columns.received.len() < RECEIVED)
+        | (columns.up.len() < STATIONS)
     {
         return false;
     }
-    fill(firsts, SERIES, 0);
-    fill(lasts, SERIES, 0);
-    fill(kinds, PLACES, 0);
-    fill(values, PLACES, 0);
-    fill(sent, PLACES, 0);
-    fill(relto, PLACES, 0);
-    fill(relkind, PLACES, 0);
-    fill(relvalue, PLACES, 0);
-    fill(received, RECEIVED, 0);
-    fill(up, STATIONS, 1);
+    columns.firsts[..SERIES].fill(0);
+    columns.lasts[..SERIES].fill(0);
+    columns.kinds[..PLACES].fill(0);
+    columns.values[..PLACES].fill(0);
+    columns.sent[..PLACES].fill(0);
+    columns.relto[..PLACES].fill(0);
+    columns.relkind[..PLACES].fill(0);
+    columns.relvalue[..PLACES].fill(0);
+    columns.received[..RECEIVED].fill(0);
+    columns.up[..STATIONS].fill(1);
     true
 }
 
 // Makes an empty plant in the lent tables and sixteen slots: no series, no jobs, all stations up. Refuses only with SHORT; extra entries
 // stay.
-pub fn empty(
-    jobs: [Job; JOBS],
-    firsts: &mut [Serial],
-    lasts: &mut [Serial],
-    kinds: &mut [u32],
-    values: &mut [Serial],
-    sent: &mut [u32],
-    relto: &mut [u32],
-    relkind: &mut [u32],
-    relvalue: &mut [Serial],
-    received: &mut [u32],
-    up: &mut [u32],
-) -> Stepped
-    ensures { made result (tables firsts.new lasts.new kinds.new values.new sent.new relto.new relkind.new relvalue.new received.new up.new)
-        ≡ empty_of (plant (tables firsts.old lasts.old kinds.old values.old sent.old relto.old relkind.old relvalue.old received.old up.old) jobs) }
+pub fn empty(jobs: &mut [Job; JOBS], columns: &mut Lent<'_>) -> Answer
+    ensures same { SameColumns columns.old columns.new }
+    ensures leaves { made (stepped result jobs.new) (lent columns.new) ≡ empty_of (plant (lent columns.old) jobs.old) }
 {
-    if clear(
-        firsts, lasts, kinds, values, sent, relto, relkind, relvalue, received, up,
-    ) {
-        let unused = jobs[0].close();
-        return Stepped {
-            answer: Ok(0),
-            jobs: [unused; JOBS],
-        };
+    if !clear(columns) {
+        return Err(Refusal::Short);
     }
-    Stepped {
-        answer: Err(Refusal::Short),
-        jobs,
-    }
+    *jobs = [jobs[0].close(); JOBS];
+    Ok(0)
 }

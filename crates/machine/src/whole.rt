@@ -9,16 +9,9 @@ use jobs::{Job, first_broken_job};
 use words::{Flaw, JOBS};
 
 // What the check finds wrong in the lent tables: one is short, or the rule broken first.
-pub fn check(jobs: [Job; JOBS], columns: &Seen<'_>) -> Result<(), Flaw>
-    ensures { result ≡ check (plant (seen columns.now) jobs) }
+pub fn check(jobs: &[Job; JOBS], columns: &Seen<'_>) -> Result<(), Flaw>
+    ensures { result ≡ check (plant (seen columns.now) jobs.now) }
 {
     first_broken(columns)?;
-    first_broken_job(
-        jobs,
-        columns.firsts,
-        columns.lasts,
-        columns.kinds,
-        columns.values,
-        columns.up,
-    )
+    first_broken_job(jobs, columns)
 }
