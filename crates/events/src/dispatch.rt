@@ -100,10 +100,10 @@ fn crash_event(jobs: &mut [Job; JOBS], columns: &mut Lent<'_>, event: Event) -> 
     ensures leaves { (out : List ℕ) → eqb event.kind CRASH ≡ true → left (upper.stepped result jobs.new) (lent columns.new) out
         ≡ unchecked_step (plant (lent columns.old) jobs.old) out event }
 {
-    if is_bad(event) {
-        return Err(Refusal::BadEvent);
+    if !is_bad(event) {
+        return jobs::crash(jobs, columns, event.a);
     }
-    jobs::crash(jobs, columns, event.a)
+    Err(Refusal::BadEvent)
 }
 
 // The step without the check: in whole tables it is the step, and in others it still answers, as the calls of the layers do. The slot that the event

@@ -15,10 +15,7 @@ pub fn empty(jobs: &mut [Job], columns: &mut Lent<'_>) -> Answer
     ensures same { SameColumns columns.old columns.new }
     ensures leaves { made result (plant (lent columns.new) jobs.new) ≡ empty_of (plant (lent columns.old) jobs.old) }
 {
-    if jobs.len() < JOBS {
-        return Err(Refusal::Short);
-    }
-    if !machine::clear(columns) {
+    if jobs.len() < JOBS || !machine::clear(columns) {
         return Err(Refusal::Short);
     }
     close_slots(jobs);
