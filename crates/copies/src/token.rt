@@ -61,6 +61,7 @@ pub fn demote(columns: &mut Lent<'_>, free: bool, series: u32, station: u32) -> 
 }
 
 // Whether another station holds a share copy.
+// A `for`: under `any` the closure needs a `requires` for its index, and is no plainer.
 #[tactic(auto, using(words::proofs::Laws::some_none, words::proofs::Laws::some_end))]
 fn other_share(columns: &Lent<'_>, series: u32, station: u32) -> bool
     requires kind { place_count ≤ length columns.now.kinds.now }
@@ -119,7 +120,7 @@ pub fn drop(columns: &mut Lent<'_>, free: bool, series: u32, station: u32) -> An
     drop_in(columns, free, series, station)
 }
 
-// Whether a transfer of the series is undelivered.
+// Whether a transfer of the series is undelivered; a `for` for the same reason.
 #[tactic(auto, using(words::proofs::Laws::some_none, words::proofs::Laws::some_next, words::proofs::Laws::some_end))]
 fn under_way(columns: &Lent<'_>, series: u32) -> bool
     requires sent { place_count ≤ length columns.now.sent.now }
