@@ -1,10 +1,10 @@
 // DEMOTE, DROP and PROMOTE: a station changes the kind of its own copy.
-ghost use Rattle.std.specs.Prelude.{◌≡◌, false, ◌<◌, ◌≤◌, length};
+ghost use Rattle.std.specs.Prelude.{◌≡◌, ◌<◌, ◌≤◌, length};
 ghost use Rattle.words.specs.Numbers.{station_count, series_count, place_count, received_count};
 ghost use Rattle.copies.specs.Columns.{lent, SameColumns};
 ghost use Rattle.copies.specs.Tables.{series_at};
 ghost use Rattle.copies.specs.Steps.{other_share, under_way};
-ghost use Rattle.copies.specs.Calls.{outcome, bad_copy, short_holder, short_promoter, demote, demote_in, drop, drop_in, promote, promote_in};
+ghost use Rattle.copies.specs.Calls.{outcome, bad_copy, short_holder, short_promoter, demote, drop, promote};
 
 use crate::Lent;
 use crate::checks::bad_copy;
@@ -19,14 +19,19 @@ fn short_holder(columns: &Lent<'_>) -> bool
     (columns.firsts.len() < SERIES) | (columns.kinds.len() < PLACES) | (columns.up.len() < STATIONS)
 }
 
-// DEMOTE where refusals 1 and 3 are not given.
-#[tactic(auto, using(crate::proofs::Guards::chain), unfolding(crate::specs::Calls::demote_in, crate::specs::Calls::short_holder, crate::specs::Calls::bad_copy, crate::specs::Steps::demoted, words::specs::Tests::refuse_if, words::specs::Tests::non))]
-fn demote_in(columns: &mut Lent<'_>, free: bool, series: u32, station: u32) -> Answer
-    requires { (short_holder (lent columns.old) ≡ false) × (bad_copy series station ≡ false) }
+// 10 DEMOTE: a free exclusive copy becomes share.
+#[tactic(auto, using(crate::proofs::Guards::chain), unfolding(crate::specs::Calls::demote, crate::specs::Calls::demote_in, crate::specs::Calls::short_holder, crate::specs::Calls::bad_copy, crate::specs::Steps::demoted, words::specs::Tests::refuse_if, words::specs::Tests::non))]
+pub fn demote(columns: &mut Lent<'_>, free: bool, series: u32, station: u32) -> Answer
     ensures same { SameColumns columns.old columns.new }
     ensures leaves { outcome result (lent columns.new)
-        ≡ demote_in (lent columns.old) free series station }
+        ≡ demote (lent columns.old) free series station }
 {
+    if short_holder(columns) {
+        return Err(Refusal::Short);
+    }
+    if bad_copy(series, station) {
+        return Err(Refusal::BadEvent);
+    }
     if columns.firsts[series as usize] == 0 {
         return Err(Refusal::None);
     }
@@ -44,23 +49,8 @@ fn demote_in(columns: &mut Lent<'_>, free: bool, series: u32, station: u32) -> A
     Ok(0)
 }
 
-// 10 DEMOTE: a free exclusive copy becomes share.
-#[tactic(auto, unfolding(crate::specs::Calls::demote, words::specs::Tests::refuse_if))]
-pub fn demote(columns: &mut Lent<'_>, free: bool, series: u32, station: u32) -> Answer
-    ensures same { SameColumns columns.old columns.new }
-    ensures leaves { outcome result (lent columns.new)
-        ≡ demote (lent columns.old) free series station }
-{
-    if short_holder(columns) {
-        return Err(Refusal::Short);
-    }
-    if bad_copy(series, station) {
-        return Err(Refusal::BadEvent);
-    }
-    demote_in(columns, free, series, station)
-}
-
 // Whether another station holds a share copy.
+// A `for`: under `any` the closure needs a `requires` for its index, and is no plainer.
 #[tactic(auto, using(words::proofs::Laws::some_none, words::proofs::Laws::some_end))]
 fn other_share(columns: &Lent<'_>, series: u32, station: u32) -> bool
     requires kind { place_count ≤ length columns.now.kinds.now }
@@ -75,14 +65,19 @@ fn other_share(columns: &Lent<'_>, series: u32, station: u32) -> bool
     some
 }
 
-// DROP where refusals 1 and 3 are not given.
-#[tactic(auto, using(crate::proofs::Guards::chain), unfolding(crate::specs::Calls::drop_in, crate::specs::Calls::short_holder, crate::specs::Calls::bad_copy, crate::specs::Steps::dropped, words::specs::Tests::refuse_if, words::specs::Tests::non))]
-fn drop_in(columns: &mut Lent<'_>, free: bool, series: u32, station: u32) -> Answer
-    requires { (short_holder (lent columns.old) ≡ false) × (bad_copy series station ≡ false) }
+// 12 DROP: a free share copy, not the only one, becomes void.
+#[tactic(auto, using(crate::proofs::Guards::chain), unfolding(crate::specs::Calls::drop, crate::specs::Calls::drop_in, crate::specs::Calls::short_holder, crate::specs::Calls::bad_copy, crate::specs::Steps::dropped, words::specs::Tests::refuse_if, words::specs::Tests::non))]
+pub fn drop(columns: &mut Lent<'_>, free: bool, series: u32, station: u32) -> Answer
     ensures same { SameColumns columns.old columns.new }
     ensures leaves { outcome result (lent columns.new)
-        ≡ drop_in (lent columns.old) free series station }
+        ≡ drop (lent columns.old) free series station }
 {
+    if short_holder(columns) {
+        return Err(Refusal::Short);
+    }
+    if bad_copy(series, station) {
+        return Err(Refusal::BadEvent);
+    }
     if columns.firsts[series as usize] == 0 {
         return Err(Refusal::None);
     }
@@ -103,23 +98,7 @@ fn drop_in(columns: &mut Lent<'_>, free: bool, series: u32, station: u32) -> Ans
     Ok(0)
 }
 
-// 12 DROP: a free share copy, not the only one, becomes void.
-#[tactic(auto, unfolding(crate::specs::Calls::drop, words::specs::Tests::refuse_if))]
-pub fn drop(columns: &mut Lent<'_>, free: bool, series: u32, station: u32) -> Answer
-    ensures same { SameColumns columns.old columns.new }
-    ensures leaves { outcome result (lent columns.new)
-        ≡ drop (lent columns.old) free series station }
-{
-    if short_holder(columns) {
-        return Err(Refusal::Short);
-    }
-    if bad_copy(series, station) {
-        return Err(Refusal::BadEvent);
-    }
-    drop_in(columns, free, series, station)
-}
-
-// Whether a transfer of the series is undelivered.
+// Whether a transfer of the series is undelivered; a `for` for the same reason.
 #[tactic(auto, using(words::proofs::Laws::some_none, words::proofs::Laws::some_next, words::proofs::Laws::some_end))]
 fn under_way(columns: &Lent<'_>, series: u32) -> bool
     requires sent { place_count ≤ length columns.now.sent.now }
@@ -159,14 +138,19 @@ fn short_promoter(columns: &Lent<'_>) -> bool
         | (columns.up.len() < STATIONS)
 }
 
-// PROMOTE where refusals 1 and 3 are not given.
-#[tactic(auto, using(crate::proofs::Guards::chain), unfolding(crate::specs::Calls::promote_in, crate::specs::Calls::short_promoter, crate::specs::Calls::bad_copy, crate::specs::Steps::promoted, words::specs::Tests::refuse_if, words::specs::Tests::non))]
-fn promote_in(columns: &mut Lent<'_>, free: bool, series: u32, station: u32) -> Answer
-    requires { (short_promoter (lent columns.old) ≡ false) × (bad_copy series station ≡ false) }
+// 13 PROMOTE: a free share copy, the only share of the series, becomes exclusive.
+#[tactic(auto, using(crate::proofs::Guards::chain), unfolding(crate::specs::Calls::promote, crate::specs::Calls::promote_in, crate::specs::Calls::short_promoter, crate::specs::Calls::bad_copy, crate::specs::Steps::promoted, words::specs::Tests::refuse_if, words::specs::Tests::non))]
+pub fn promote(columns: &mut Lent<'_>, free: bool, series: u32, station: u32) -> Answer
     ensures same { SameColumns columns.old columns.new }
     ensures leaves { outcome result (lent columns.new)
-        ≡ promote_in (lent columns.old) free series station }
+        ≡ promote (lent columns.old) free series station }
 {
+    if short_promoter(columns) {
+        return Err(Refusal::Short);
+    }
+    if bad_copy(series, station) {
+        return Err(Refusal::BadEvent);
+    }
     if columns.firsts[series as usize] == 0 {
         return Err(Refusal::None);
     }
@@ -185,20 +169,4 @@ fn promote_in(columns: &mut Lent<'_>, free: bool, series: u32, station: u32) -> 
     }
     columns.kinds[at] = EXCLUSIVE;
     Ok(0)
-}
-
-// 13 PROMOTE: a free share copy, the only share of the series, becomes exclusive.
-#[tactic(auto, unfolding(crate::specs::Calls::promote, words::specs::Tests::refuse_if))]
-pub fn promote(columns: &mut Lent<'_>, free: bool, series: u32, station: u32) -> Answer
-    ensures same { SameColumns columns.old columns.new }
-    ensures leaves { outcome result (lent columns.new)
-        ≡ promote (lent columns.old) free series station }
-{
-    if short_promoter(columns) {
-        return Err(Refusal::Short);
-    }
-    if bad_copy(series, station) {
-        return Err(Refusal::BadEvent);
-    }
-    promote_in(columns, free, series, station)
 }

@@ -1,16 +1,14 @@
 // SEND, SHARE, GRANT and ACK: a token goes from station to station by a Release, a message and an acknowledgment.
-ghost use Rattle.std.specs.Prelude.{◌≡◌, ◌<◌, ◌≤◌, false, length};
+ghost use Rattle.std.specs.Prelude.{◌≡◌, ◌<◌, ◌≤◌, length};
 ghost use Rattle.words.specs.Numbers.{station_count, series_count, place_count};
 ghost use Rattle.copies.specs.Columns.{lent, SameColumns};
 ghost use Rattle.copies.specs.Tables.{series_at};
 ghost use Rattle.copies.specs.Steps.{matches};
-ghost use Rattle.copies.specs.Calls.{outcome, bad_transfer, bad_message, short_sender, short_receiver, short_source, send, send_in, send_share, share_in, grant, grant_in, ack, ack_in};
+ghost use Rattle.copies.specs.Calls.{outcome, bad_transfer, bad_message, short_sender, short_receiver, short_source, send, send_share, grant, ack};
 
 use crate::Lent;
 use crate::checks::{bad_message, bad_transfer};
-use words::{
-    Answer, EXCLUSIVE, GREATEST_SENT, PLACES, RECEIVED, Refusal, SERIES, SHARE, STATIONS, VOID,
-};
+use words::{Answer, EXCLUSIVE, GREATEST_SENT, PLACES, RECEIVED, Refusal, SERIES, SHARE, STATIONS, VOID};
 
 // Whether a column of SEND or SHARE is short.
 #[tactic(auto, using(words::proofs::Laws::flag_or), unfolding(crate::specs::Calls::short_sender))]
@@ -27,14 +25,19 @@ fn short_sender(columns: &Lent<'_>) -> bool
         | (columns.up.len() < STATIONS)
 }
 
-// SEND where refusals 1 and 3 are not given.
-#[tactic(auto, using(crate::proofs::Guards::chain), unfolding(crate::specs::Calls::send_in, crate::specs::Calls::short_sender, crate::specs::Calls::bad_transfer, crate::specs::Steps::sent_off, crate::specs::Steps::released, crate::specs::Steps::is_spent, words::specs::Tests::refuse_if, words::specs::Tests::non))]
-fn send_in(columns: &mut Lent<'_>, free: bool, series: u32, from: u32, to: u32) -> Answer
-    requires { (short_sender (lent columns.old) ≡ false) × (bad_transfer series from to ≡ false) }
+// 9 SEND: a free exclusive copy becomes void, and a Release of kind 2 takes its value.
+#[tactic(auto, using(crate::proofs::Guards::chain), unfolding(crate::specs::Calls::send, crate::specs::Calls::send_in, crate::specs::Calls::short_sender, crate::specs::Calls::bad_transfer, crate::specs::Steps::sent_off, crate::specs::Steps::released, crate::specs::Steps::is_spent, words::specs::Tests::refuse_if, words::specs::Tests::non))]
+pub fn send(columns: &mut Lent<'_>, free: bool, series: u32, from: u32, to: u32) -> Answer
     ensures same { SameColumns columns.old columns.new }
     ensures leaves { outcome result (lent columns.new)
-        ≡ send_in (lent columns.old) free series from to }
+        ≡ send (lent columns.old) free series from to }
 {
+    if short_sender(columns) {
+        return Err(Refusal::Short);
+    }
+    if bad_transfer(series, from, to) {
+        return Err(Refusal::BadEvent);
+    }
     if columns.firsts[series as usize] == 0 {
         return Err(Refusal::None);
     }
@@ -63,12 +66,12 @@ fn send_in(columns: &mut Lent<'_>, free: bool, series: u32, from: u32, to: u32) 
     Ok(number + 1)
 }
 
-// 9 SEND: a free exclusive copy becomes void, and a Release of kind 2 takes its value.
-#[tactic(auto, unfolding(crate::specs::Calls::send, words::specs::Tests::refuse_if))]
-pub fn send(columns: &mut Lent<'_>, free: bool, series: u32, from: u32, to: u32) -> Answer
+// 11 SHARE: from keeps its share copy, and a Release of kind 1 takes its value.
+#[tactic(auto, using(crate::proofs::Guards::chain), unfolding(crate::specs::Calls::send_share, crate::specs::Calls::share_in, crate::specs::Calls::short_sender, crate::specs::Calls::bad_transfer, crate::specs::Steps::shared, crate::specs::Steps::released, crate::specs::Steps::is_spent, words::specs::Tests::refuse_if, words::specs::Tests::non))]
+pub fn share(columns: &mut Lent<'_>, series: u32, from: u32, to: u32) -> Answer
     ensures same { SameColumns columns.old columns.new }
     ensures leaves { outcome result (lent columns.new)
-        ≡ send (lent columns.old) free series from to }
+        ≡ send_share (lent columns.old) series from to }
 {
     if short_sender(columns) {
         return Err(Refusal::Short);
@@ -76,17 +79,6 @@ pub fn send(columns: &mut Lent<'_>, free: bool, series: u32, from: u32, to: u32)
     if bad_transfer(series, from, to) {
         return Err(Refusal::BadEvent);
     }
-    send_in(columns, free, series, from, to)
-}
-
-// SHARE where refusals 1 and 3 are not given.
-#[tactic(auto, using(crate::proofs::Guards::chain), unfolding(crate::specs::Calls::share_in, crate::specs::Calls::short_sender, crate::specs::Calls::bad_transfer, crate::specs::Steps::shared, crate::specs::Steps::released, crate::specs::Steps::is_spent, words::specs::Tests::refuse_if, words::specs::Tests::non))]
-fn share_in(columns: &mut Lent<'_>, series: u32, from: u32, to: u32) -> Answer
-    requires { (short_sender (lent columns.old) ≡ false) × (bad_transfer series from to ≡ false) }
-    ensures same { SameColumns columns.old columns.new }
-    ensures leaves { outcome result (lent columns.new)
-        ≡ share_in (lent columns.old) series from to }
-{
     if columns.firsts[series as usize] == 0 {
         return Err(Refusal::None);
     }
@@ -109,22 +101,6 @@ fn share_in(columns: &mut Lent<'_>, series: u32, from: u32, to: u32) -> Answer
     columns.relkind[at] = SHARE;
     columns.relvalue[at] = columns.values[at];
     Ok(number + 1)
-}
-
-// 11 SHARE: from keeps its share copy, and a Release of kind 1 takes its value.
-#[tactic(auto, unfolding(crate::specs::Calls::send_share, words::specs::Tests::refuse_if))]
-pub fn share(columns: &mut Lent<'_>, series: u32, from: u32, to: u32) -> Answer
-    ensures same { SameColumns columns.old columns.new }
-    ensures leaves { outcome result (lent columns.new)
-        ≡ send_share (lent columns.old) series from to }
-{
-    if short_sender(columns) {
-        return Err(Refusal::Short);
-    }
-    if bad_transfer(series, from, to) {
-        return Err(Refusal::BadEvent);
-    }
-    share_in(columns, series, from, to)
 }
 
 // Whether a column of GRANT is short.
@@ -156,14 +132,19 @@ fn matches(columns: &Lent<'_>, series: u32, from: u32, to: u32, number: u32) -> 
     (columns.relkind[at] != 0) & (columns.relto[at] == to) & (columns.sent[at] == number)
 }
 
-// GRANT where refusals 1 and 3 are not given.
-#[tactic(auto, using(crate::proofs::Guards::chain), unfolding(crate::specs::Calls::grant_in, crate::specs::Calls::short_receiver, crate::specs::Calls::bad_message, crate::specs::Calls::bad_transfer, crate::specs::Steps::no_grant, crate::specs::Steps::is_repeat, crate::specs::Steps::arrived, words::specs::Tests::refuse_if, words::specs::Tests::non))]
-fn grant_in(columns: &mut Lent<'_>, series: u32, from: u32, to: u32, number: u32) -> Answer
-    requires { (short_receiver (lent columns.old) ≡ false) × (bad_message series from to number ≡ false) }
+// 14 GRANT: the transfer arrives, once; a repeat is known by its number alone.
+#[tactic(auto, using(crate::proofs::Guards::chain), unfolding(crate::specs::Calls::grant, crate::specs::Calls::grant_in, crate::specs::Calls::short_receiver, crate::specs::Calls::bad_message, crate::specs::Calls::bad_transfer, crate::specs::Steps::no_grant, crate::specs::Steps::is_repeat, crate::specs::Steps::arrived, words::specs::Tests::refuse_if, words::specs::Tests::non))]
+pub fn grant(columns: &mut Lent<'_>, series: u32, from: u32, to: u32, number: u32) -> Answer
     ensures same { SameColumns columns.old columns.new }
     ensures leaves { outcome result (lent columns.new)
-        ≡ grant_in (lent columns.old) series from to number }
+        ≡ grant (lent columns.old) series from to number }
 {
+    if short_receiver(columns) {
+        return Err(Refusal::Short);
+    }
+    if bad_message(series, from, to, number) {
+        return Err(Refusal::BadEvent);
+    }
     if columns.firsts[series as usize] == 0 {
         return Err(Refusal::None);
     }
@@ -184,22 +165,6 @@ fn grant_in(columns: &mut Lent<'_>, series: u32, from: u32, to: u32, number: u32
     Ok(1)
 }
 
-// 14 GRANT: the transfer arrives, once; a repeat is known by its number alone.
-#[tactic(auto, unfolding(crate::specs::Calls::grant, words::specs::Tests::refuse_if))]
-pub fn grant(columns: &mut Lent<'_>, series: u32, from: u32, to: u32, number: u32) -> Answer
-    ensures same { SameColumns columns.old columns.new }
-    ensures leaves { outcome result (lent columns.new)
-        ≡ grant (lent columns.old) series from to number }
-{
-    if short_receiver(columns) {
-        return Err(Refusal::Short);
-    }
-    if bad_message(series, from, to, number) {
-        return Err(Refusal::BadEvent);
-    }
-    grant_in(columns, series, from, to, number)
-}
-
 // Whether a column of ACK is short.
 #[tactic(auto, using(words::proofs::Laws::flag_or), unfolding(crate::specs::Calls::short_source))]
 fn short_source(columns: &Lent<'_>) -> bool
@@ -214,14 +179,19 @@ fn short_source(columns: &Lent<'_>) -> bool
         | (columns.up.len() < STATIONS)
 }
 
-// ACK where refusals 1 and 3 are not given.
-#[tactic(auto, using(crate::proofs::Guards::chain), unfolding(crate::specs::Calls::ack_in, crate::specs::Calls::short_source, crate::specs::Calls::bad_message, crate::specs::Calls::bad_transfer, crate::specs::Steps::no_ack, crate::specs::Steps::matches, crate::specs::Steps::deleted, words::specs::Tests::refuse_if, words::specs::Tests::non))]
-fn ack_in(columns: &mut Lent<'_>, series: u32, from: u32, to: u32, number: u32) -> Answer
-    requires { (short_source (lent columns.old) ≡ false) × (bad_message series from to number ≡ false) }
+// 15 ACK: of a delivered transfer its standing Release is deleted; anything late is ignored (X7).
+#[tactic(auto, using(crate::proofs::Guards::chain), unfolding(crate::specs::Calls::ack, crate::specs::Calls::ack_in, crate::specs::Calls::short_source, crate::specs::Calls::bad_message, crate::specs::Calls::bad_transfer, crate::specs::Steps::no_ack, crate::specs::Steps::matches, crate::specs::Steps::deleted, words::specs::Tests::refuse_if, words::specs::Tests::non))]
+pub fn ack(columns: &mut Lent<'_>, series: u32, from: u32, to: u32, number: u32) -> Answer
     ensures same { SameColumns columns.old columns.new }
     ensures leaves { outcome result (lent columns.new)
-        ≡ ack_in (lent columns.old) series from to number }
+        ≡ ack (lent columns.old) series from to number }
 {
+    if short_source(columns) {
+        return Err(Refusal::Short);
+    }
+    if bad_message(series, from, to, number) {
+        return Err(Refusal::BadEvent);
+    }
     if columns.firsts[series as usize] == 0 {
         return Err(Refusal::None);
     }
@@ -243,20 +213,4 @@ fn ack_in(columns: &mut Lent<'_>, series: u32, from: u32, to: u32, number: u32) 
     columns.relkind[at] = 0;
     columns.relvalue[at] = 0;
     Ok(1)
-}
-
-// 15 ACK: of a delivered transfer its standing Release is deleted; anything late is ignored (X7).
-#[tactic(auto, unfolding(crate::specs::Calls::ack, words::specs::Tests::refuse_if))]
-pub fn ack(columns: &mut Lent<'_>, series: u32, from: u32, to: u32, number: u32) -> Answer
-    ensures same { SameColumns columns.old columns.new }
-    ensures leaves { outcome result (lent columns.new)
-        ≡ ack (lent columns.old) series from to number }
-{
-    if short_source(columns) {
-        return Err(Refusal::Short);
-    }
-    if bad_message(series, from, to, number) {
-        return Err(Refusal::BadEvent);
-    }
-    ack_in(columns, series, from, to, number)
 }
