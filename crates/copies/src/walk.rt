@@ -23,8 +23,8 @@ fn zeros(column: &[u32], from: usize, count: usize) -> bool
     ensures { result ≡ all_below count (λ i. eqb (get_or column.now (from + i) 0) 0) }
 {
     let mut all = true;
-    for i in 0..count {
-        all = all & (column[from + i] == 0);
+    for entry in &column[from..from + count] {
+        all = all & (*entry == 0);
     }
     all
 }
@@ -36,8 +36,8 @@ fn marks_fine(up: &[u32]) -> bool
     ensures { result ≡ W1_marks up.now }
 {
     let mut all = true;
-    for n in 0..STATIONS {
-        all = all & (up[n] <= 1);
+    for mark in &up[..STATIONS] {
+        all = all & (*mark <= 1);
     }
     all
 }
