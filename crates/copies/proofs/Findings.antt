@@ -42,4 +42,5 @@ module _ (t : Copies) (short : Bool) (is : short ≡ short_copies t) where
         unfolding check_copies first_broken broken_in found_by broken ◌or_else◌
         found_whole e = rw (← is, no, ← p, none, ← q, e)
 
-pub ruleset ways = (found_short, found_long, found_broken, found_marks, found_whole)
+-- the ways out
+pub ruleset ways = (found_short, found_broken, found_marks, found_whole)

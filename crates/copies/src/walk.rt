@@ -205,7 +205,7 @@ fn transfer_kind(received: &[u32], s: usize, n: usize, kept: Kept) -> u32
 }
 
 // W2 of an open series' tokens, counted in one pass: at most a copy and a transfer each station.
-#[tactic(auto, using(crate::proofs::Tokens::tally_ways))]
+#[tactic(auto, using(crate::proofs::Tokens::tally_none))]
 fn tokens_fine(columns: &Seen<'_>, s: usize) -> bool
     requires { Long (seen columns.now) × (s < series_count) }
     ensures { result ≡ tally_fine (tally (series_at (seen columns.now) s) station_count) }

@@ -5,4 +5,4 @@ use Rattle.copies.proofs.Tokens.{tally_next}
 use Rattle.copies.proofs.walk.tokens_fine.Goals as goal
 
 pub loop-n-preserved : goal.loop-n-preserved
-loop-n-preserved c = (omega arith, search tally_next, omega arith, omega arith)
+loop-n-preserved c = (search tally_next, omega arith, omega arith)
