@@ -41,3 +41,6 @@ module _ (t : Copies) (short : Bool) (is : short ≡ short_copies t) where
         pub found_whole : b ≡ true → Ok tt ≡ check_copies t
         unfolding check_copies first_broken broken_in found_by broken ◌or_else◌
         found_whole e = rw (← is, no, ← p, none, ← q, e)
+
+-- the ways out
+pub ruleset ways = (found_short, found_broken, found_marks, found_whole)

