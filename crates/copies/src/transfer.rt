@@ -8,7 +8,9 @@ ghost use Rattle.copies.specs.Calls.{outcome, bad_transfer, bad_message, short_s
 
 use crate::Lent;
 use crate::checks::{bad_message, bad_transfer};
-use words::{Answer, EXCLUSIVE, GREATEST_SENT, PLACES, RECEIVED, Refusal, SERIES, SHARE, STATIONS, VOID};
+use words::{
+    Answer, EXCLUSIVE, GREATEST_SENT, PLACES, RECEIVED, Refusal, SERIES, SHARE, STATIONS, VOID,
+};
 
 // Whether a column of SEND or SHARE is short.
 #[tactic(auto, using(words::proofs::Laws::flag_or), unfolding(crate::specs::Calls::short_sender))]
