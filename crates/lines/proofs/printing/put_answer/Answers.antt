@@ -11,8 +11,8 @@ put_field-q-requires c = search room_second
 pub put_field-r-requires : goal.put_field-r-requires
 put_field-r-requires c = search room_third
 
-pub put_fields-requires-clause-row_in_bounds : goal.put_fields-requires-clause-row_in_bounds
-put_fields-requires-clause-row_in_bounds c = search room_rest
+pub put_fields-requires : goal.put_fields-requires
+put_fields-requires c = search room_rest
 
 pub returns-clause-value : goal.returns-clause-value
 returns-clause-value c = search three_to
