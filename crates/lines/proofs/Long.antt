@@ -87,15 +87,15 @@ line_most number code value ns n c v d l =
       decimal_long 10 value (omega arith) (omega arith),
     )
 
--- an answer shows no more of a row than it has
-module _ (number code value : ℕ) (a : Answer) (row : List ℕ) (shown : ℕ) (c : code ≡ code_of a) (k : shown ≡ min out_count (length row)) where
+module _ (number code value : ℕ) (a : Answer) (row : List ℕ) (shown : ℕ) (c : code ≡ code_of a) where
   -- an answer line is at most as long as the room that is asked for it
-  pub answer_long : number < 2 ^ 64 → value < 2 ^ 32 → Narrow row → length (line number (code ∷ value ∷ take shown row)) ≤ answer_room
-  answer_long n v d =
+  pub answer_long : number < 2 ^ 64 → value < 2 ^ 32 → Narrow row → shown ≤ out_count
+      → length (line number (code ∷ value ∷ take shown row)) ≤ answer_room
+  answer_long n v d l =
       line_most number code value (take shown row) n (rw c (code_most a)) v (narrow_take shown row d) (omega (arith, length-take shown row))
 
-  -- the line that is written is the answer's
-  module _ (v : value ≡ value_of a) where
+  -- the line that is written is the answer's, which shows no more of a row than it has
+  module _ (v : value ≡ value_of a) (k : shown ≡ min out_count (length row)) where
     answer_is : line number (code ∷ value ∷ take shown row) ≡ answer_text number (reply a row)
     unfolding answer_text
     answer_is = rw (c, v, k, take_min out_count row)

@@ -39,11 +39,11 @@ fn field(line: &[u8], at: usize, wanted: bool) -> Option<(u32, usize)>
 fn fields_from(line: &[u8], kind: u32, count: usize, at: usize) -> Option<Event>
     ensures { result ≡ fields_from line.now kind count at }
 {
-    let (a, p) = field(line, at, 0 < count)?;
-    let (b, q) = field(line, p, 1 < count)?;
-    let (c, r) = field(line, q, 2 < count)?;
-    let (d, end) = field(line, r, 3 < count)?;
-    if end != line.len() {
+    let (a, at) = field(line, at, 0 < count)?;
+    let (b, at) = field(line, at, 1 < count)?;
+    let (c, at) = field(line, at, 2 < count)?;
+    let (d, at) = field(line, at, 3 < count)?;
+    if at != line.len() {
         return None;
     }
     Some(Event { kind, a, b, c, d })

@@ -59,10 +59,10 @@ fn put_answer(
     ensures value { result ≡ at + length (line number (code ∷ value ∷ row.now)) }
     ensures out_after { out.new ≡ sets out.old at (line number (code ∷ value ∷ row.now)) }
 {
-    let p = put_number(out, at, number);
-    let q = put_field(out, p, code);
-    let r = put_field(out, q, value);
-    put_fields(out, r, row)
+    let after_number = put_number(out, at, number);
+    let after_code = put_field(out, after_number, code);
+    let after_value = put_field(out, after_code, value);
+    put_fields(out, after_value, row)
 }
 
 // An answer line at a position of out: the line's number, the answer's code and value, and the numbers of row, at most twelve. It asks

@@ -5,7 +5,7 @@ use Rattle.lines.proofs.printing.write_answer.Goals as goal
 
 pub put_answer-requires : goal.put_answer-requires
 put_answer-requires c =
-    omega (arith, answer_long c.args.number _ c.value.result c.args.answer c.args.row.now _ c.code.ensures c.min.ensures (omega arith) (omega arith) (λ i. omega (arith, c.type_inv.row i)))
+    omega (arith, answer_long c.args.number _ c.value.result c.args.answer c.args.row.now c.min.result c.code.ensures (omega arith) (omega arith) (λ i. omega (arith, c.type_inv.row i)) (omega arith))
 
 pub returns-clause-value : goal.returns-clause-value
 returns-clause-value c = search answer_to
@@ -18,5 +18,5 @@ returns-clause-ends_by c =
     omega (
       arith,
       c.put_answer.ensures.value,
-      answer_long c.args.number _ c.value.result c.args.answer c.args.row.now _ c.code.ensures c.min.ensures (omega arith) (omega arith) (λ i. omega (arith, c.type_inv.row i)),
+      answer_long c.args.number _ c.value.result c.args.answer c.args.row.now c.min.result c.code.ensures (omega arith) (omega arith) (λ i. omega (arith, c.type_inv.row i)) (omega arith),
     )
