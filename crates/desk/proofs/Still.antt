@@ -1,16 +1,17 @@
 -- The loop of a call: what was done and what is still to be done give together what the whole call gives. Assumes nothing.
-use Prim.Native.Nat.{ℕ, ◌+◌, ◌-◌, ◌≤◌}
+use Prim.Native.Nat.{ℕ, ◌+◌, ◌-◌}
 use mathlib.Core.Path.{◌≡◌, refl, sym, ◌∙◌}
 use mathlib.Core.List.{List, []}
 use native.Mathlib.Nat.{sub-zero, zero-add, add-zero, add_assoc}
 use native.Mathlib.Omega.{arith}
 use lib.ListN.{length, take, drop, length-append}
 use lib.Seq.{sets}
-use Rattle.lines.specs.declared.Found.TheVariants.{Line, Nothing}
+use Rattle.lines.specs.declared.Line.{Line}
+use Rattle.std.specs.Prelude.{Some, None}
 use Rattle.lines.proofs.Puts.{sets_append}
 use Rattle.desk.specs.Desk.{Desk, says}
 use Rattle.desk.specs.Calls.{Walked, halt, saying, walk, Call, called, Put, put, whole_line}
-use Rattle.desk.proofs.Walks.{walk_over, walk_none, walk_said}
+use Rattle.desk.proofs.Walks.{walk_none, walk_said}
 
 -- what a call gives and leaves, where answers fill the bytes up to a position and this walk is still to be done
 unfoldable pub still : Walked → List ℕ → ℕ → Call
@@ -35,22 +36,18 @@ still_halt used d out at = rw (add-zero at)
 
 module _ {X : Call} (t : List ℕ) (start total at : ℕ) (d : Desk) (out : List ℕ)
     (same : still (walk (total - at) [] start d (drop start t)) out at ≡ X) where
-  -- the walk is over at the text's end
-  pub still_over : length t ≤ start → record { used = start; written = at; desk = d; bytes = out } ≡ X
-  still_over h = sym (still_halt start d out at) ∙ rw (← walk_over t start (total - at) d h) same
-
-  -- or where the search finds nothing
-  pub still_none : whole_line t start (total - at) d.number ≡ Nothing
+  -- the walk is over where the search finds nothing
+  pub still_none : whole_line t start (total - at) d.number ≡ None
       → record { used = start; written = at; desk = d; bytes = out } ≡ X
   still_none found = sym (still_halt start d out at) ∙ rw (← walk_none t start (total - at) d found) same
 
   -- a line was found and answered
-  pub still_answered : {s e next : ℕ} (p : Put) → whole_line t start (total - at) d.number ≡ Line s e next
-      → p ≡ put d (take (e - start) (drop start t)) out at
-      → still (walk (total - p.at) [] next p.desk (drop next t)) p.bytes p.at ≡ X
+  pub still_answered : {l : Line} (p : Put) → whole_line t start (total - at) d.number ≡ Some l
+      → p ≡ put d (take (l.end - l.start) (drop l.start t)) out at
+      → still (walk (total - p.at) [] l.next p.desk (drop l.next t)) p.bytes p.at ≡ X
   unfolding put
-  still_answered {s} {e} {next} p found done =
-      let line : List ℕ = take (e - start) (drop start t) in
+  still_answered {l} p found done =
+      let line : List ℕ = take (l.end - l.start) (drop l.start t) in
       let left : total - (at + length (says d line)) ≡ total - at - length (says d line) = omega arith in
       let w = walk_said t start (total - at) d found line refl _ left in
       rw done (sym (still_said (says d line) _ out at) ∙ rw (← w) same)

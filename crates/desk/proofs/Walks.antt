@@ -5,12 +5,13 @@ use mathlib.Core.Bool.{Bool, true, false, cond, false≢true, and-eq-true_iff}
 use mathlib.Core.List.{List, [], ◌∷◌, ◌++◌, append_assoc, append-nil}
 use native.Mathlib.Omega.{arith}
 use lib.Dec.{leb, ltb, eqb}
-use lib.ListN.{length, take, drop, length-append, length-drop, drop_of_length-le}
+use lib.ListN.{length, take, drop, length-append, length-drop}
 use lib.Seq.{drop-drop, length-take-le}
 use borrow.Author.Tests.{eqb-true, eqb-false, eq-eqb, ne_eqb, leb-true, le-leb, ltb-true, ltb-false, lt-ltb, le-ltb}
 use Rattle.digits.specs.Bytes.{LF}
-use Rattle.lines.specs.declared.Found.{Found}
-use Rattle.lines.specs.declared.Found.TheVariants.{Line, Nothing}
+use Rattle.std.specs.Prelude.{Some, None}
+use Rattle.std.proofs.lemmas.Option.{none-some, same_Some}
+use Rattle.lines.specs.declared.Line.{Line}
 use Rattle.lines.specs.Texts.{until_end, line_end, line_at}
 use Rattle.lines.specs.Printed.{answer_room}
 use Rattle.lines.proofs.Ends.{end_start}
@@ -78,29 +79,28 @@ module _ (room : ℕ) (d : Desk) where
 
 -- ---- a text from a position on
 -- What is known of a line that the search found: it starts at the position and has its LF, and the call goes on.
-pub record Whole (t : List ℕ) (start room n s e next : ℕ) : Type 0 where
-  pub starts : s ≡ start
-  pub ends : e ≡ line_end t start
-  pub forward : start ≤ e
-  pub inside : e < length t
-  pub goes : next ≡ e + 1
+pub record Whole (t : List ℕ) (start room n : ℕ) (l : Line) : Type 0 where
+  pub starts : l.start ≡ start
+  pub ends : l.end ≡ line_end t start
+  pub forward : l.start ≤ l.end
+  pub inside : l.end < length t
+  pub goes : l.next ≡ l.end + 1
   pub fits : answer_room ≤ room
   pub numbered : n ≤ greatest_line
 
--- the line that starts at a position, where it has its LF
-abbrev whole_at : List ℕ → ℕ → Found
-whole_at t start =
-    cond (ltb (line_end t start) (length t)) (Line start (line_end t start) (line_end t start + 1)) Nothing
+-- the line that starts at a position and has its LF
+abbrev ended : List ℕ → ℕ → Line
+ended t start = record { start = start; end = line_end t start; next = line_end t start + 1 }
 
--- it is what is left of the line there, whole or not
-whole_only : (t : List ℕ) (start : ℕ) → only_whole (line_at t start) ≡ whole_at t start
+-- where it has one, the whole line is what is left of the line there
+whole_only : (t : List ℕ) (start : ℕ) → only_whole (line_at t start) ≡ cond (ltb (line_end t start) (length t)) (Some (ended t start)) None
 unfolding line_at
 whole_only t start = by (ltb start (length t)) (ltb (line_end t start) (length t)) refl refl
   where
     by : (a b : Bool) → ltb start (length t) ≡ a → ltb (line_end t start) (length t) ≡ b
         → only_whole
-        (cond a (cond b (Line start (line_end t start) (line_end t start + 1)) (Line start (line_end t start) (line_end t start))) Nothing)
-        ≡ cond b (Line start (line_end t start) (line_end t start + 1)) Nothing
+        (cond a (Some (record { start = start; end = line_end t start; next = cond b (line_end t start + 1) (line_end t start) })) None)
+        ≡ cond b (Some (ended t start)) None
     by true true p q = rw (lt-ltb (line_end t start) (line_end t start + 1) (omega arith))
     by true false p q = rw (le-ltb (line_end t start) (line_end t start) (omega arith))
     by false true p q =
@@ -109,43 +109,34 @@ whole_only t start = by (ltb start (length t)) (ltb (line_end t start) (length t
 
 module _ (t : List ℕ) (start room n : ℕ) where
   -- the search finds it, where the call goes on
-  found_is : whole_line t start room n ≡ cond (goes_on room n) (whole_at t start) Nothing
+  found_is : whole_line t start room n ≡ cond (goes_on room n) (cond (ltb (line_end t start) (length t)) (Some (ended t start)) None) None
   unfolding whole_line
   found_is = rw (whole_only t start)
 
   -- what was found is known
-  pub whole_found : {s e next : ℕ} → whole_line t start room n ≡ Line s e next → Whole t start room n s e next
-  whole_found {s} {e} {next} found = by (goes_on room n) (ltb (line_end t start) (length t)) refl refl
+  pub whole_found : {l : Line} → whole_line t start room n ≡ Some l → Whole t start room n l
+  whole_found {l} found = by (goes_on room n) (ltb (line_end t start) (length t)) refl refl
     where
-      unlike : Nothing ≡ Line s e next → ⊥
-      unlike z = let y : ◌≡◌ {A = ℕ} 0 1 = cc in omega arith
-
-      by : (g b : Bool) → goes_on room n ≡ g → ltb (line_end t start) (length t) ≡ b → Whole t start room n s e next
+      by : (g b : Bool) → goes_on room n ≡ g → ltb (line_end t start) (length t) ≡ b → Whole t start room n l
       by true true p q =
-          let z : Line start (line_end t start) (line_end t start + 1) ≡ Line s e next = sym (found_is ∙ rw (p, q)) ∙ found in
-          let k : e ≡ line_end t start = cc in
+          let z : ended t start ≡ l = same_Some (ended t start) l (sym (found_is ∙ rw (p, q)) ∙ found) in
           let m = goes_on_lem room n p in
           let h = ltb-true (line_end t start) (length t) q in
-          record {
-            starts = cc;
-            ends = k;
+          rw (← z) (record {
+            starts = refl;
+            ends = refl;
             forward = omega (arith, end_start t start);
-            inside = omega arith;
-            goes = cc;
+            inside = h;
+            goes = refl;
             fits = m.0;
             numbered = m.1;
-          }
-      by true false p q = absurd (unlike (sym (found_is ∙ rw (p, q)) ∙ found))
-      by false b p q = absurd (unlike (sym (found_is ∙ rw p) ∙ found))
+          })
+      by true false p q = absurd (none-some l (sym (found_is ∙ rw (p, q)) ∙ found))
+      by false b p q = absurd (none-some l (sym (found_is ∙ rw p) ∙ found))
 
 module _ (t : List ℕ) (start room : ℕ) (d : Desk) where
-  -- past the text's end nothing is used
-  pub walk_over : length t ≤ start → walk room [] start d (drop start t) ≡ halt start d
-  unfolding walk
-  walk_over h = rw (drop_of_length-le t {i = start} h)
-
   -- where the search finds nothing, nothing is used
-  pub walk_none : whole_line t start room d.number ≡ Nothing → walk room [] start d (drop start t) ≡ halt start d
+  pub walk_none : whole_line t start room d.number ≡ None → walk room [] start d (drop start t) ≡ halt start d
   walk_none found = by (goes_on room d.number) (ltb (line_end t start) (length t)) refl refl
     where
       by : (g b : Bool) → goes_on room d.number ≡ g → ltb (line_end t start) (length t) ≡ b
@@ -154,25 +145,22 @@ module _ (t : List ℕ) (start room : ℕ) (d : Desk) where
       by true false p q =
           walk_quiet room d [] start (drop start t)
           (omega (arith, ltb-false (line_end t start) (length t) q, end_start t start, length-drop start t))
-      by true true p q =
-          let f = found_is t start room d.number in
-          let z : Line start (line_end t start) (line_end t start + 1) ≡ Nothing = sym (f ∙ rw (p, q)) ∙ found in
-          let y : ◌≡◌ {A = ℕ} 0 1 = cc in
-          absurd (omega arith)
+      by true true p q = absurd (none-some (ended t start) (sym found ∙ found_is t start room d.number ∙ rw (p, q)))
 
   -- a line that it finds is said, and the walk goes on after its LF
-  pub walk_said : {s e next : ℕ} → whole_line t start room d.number ≡ Line s e next
-      → (line : List ℕ) → line ≡ take (e - start) (drop start t) → (left : ℕ) → left ≡ room - length (says d line)
-      → walk room [] start d (drop start t) ≡ saying (says d line) (walk left [] next (after d line) (drop next t))
-  walk_said {s} {e} {next} found line l left k =
+  pub walk_said : {l : Line} → whole_line t start room d.number ≡ Some l
+      → (line : List ℕ) → line ≡ take (l.end - l.start) (drop l.start t) → (left : ℕ) → left ≡ room - length (says d line)
+      → walk room [] start d (drop start t) ≡ saying (says d line) (walk left [] l.next (after d line) (drop l.next t))
+  walk_said {l} found line e left k =
       let w = whole_found t start room d.number found in
-      let u : until_end (drop start t) ≡ e - start = omega (arith, end_start t start) in
+      let z : line ≡ take (l.end - start) (drop start t) = rw w.starts at e in
+      let u : until_end (drop start t) ≡ l.end - start = omega (arith, end_start t start) in
       let inside : until_end (drop start t) < length (drop start t) = omega (arith, length-drop start t) in
-      let long = length-take-le (e - start) (drop start t) (omega (arith, length-drop start t)) in
-      let to : start + length line + 1 ≡ next = omega (arith, ap length l) in
-      let rest : start + suc (until_end (drop start t)) ≡ next = omega arith in
+      let long = length-take-le (l.end - start) (drop start t) (omega (arith, length-drop start t)) in
+      let to : start + length line + 1 ≡ l.next = omega (arith, ap length z) in
+      let rest : start + suc (until_end (drop start t)) ≡ l.next = omega arith in
       let on : goes_on room d.number ≡ true = rw (le-leb answer_room room w.fits, le-leb d.number greatest_line w.numbered) in
-      walk_first room d [] start (drop start t) line on inside (rw u l)
+      walk_first room d [] start (drop start t) line on inside (rw u z)
       ∙ rw (drop-drop (suc (until_end (drop start t))) start t, rest, to, k)
 
 -- ---- what a call uses and says

@@ -1,6 +1,6 @@
 -- The answers to a text of event lines: those of the rulebook's run, line by line ("Around the step" in 01).
 -- Assumes nothing.
-use Rattle.std.specs.Prelude.{ℕ, ◌+◌, cond, List, [], ◌∷◌, ◌++◌, eqb, replicate, Err}
+use Rattle.std.specs.Prelude.{ℕ, ◌+◌, cond, List, [], ◌∷◌, ◌++◌, eqb, replicate, Option, Some, None, Err}
 use Rattle.words.specs.declared.Refusal.TheVariants.{BadEvent}
 use Rattle.words.specs.Numbers.{out_count}
 use Rattle.digits.specs.Bytes.{LF}
@@ -8,8 +8,6 @@ use Rattle.rulebook.specs.declared.Event.{Event}
 use Rattle.rulebook.specs.Tables.{Plant}
 use Rattle.rulebook.specs.Around.{empty_plant}
 use Rattle.rulebook.specs.Run.{Reply, run_from}
-use Rattle.lines.specs.declared.Parsed.{Parsed}
-use Rattle.lines.specs.declared.Parsed.TheVariants.{Good, Bad}
 use Rattle.lines.specs.EventLines.{event_line}
 use Rattle.lines.specs.Printed.{reply, answer_text}
 
@@ -28,9 +26,9 @@ abbrev pub lines_of : List ℕ → List (List ℕ)
 lines_of t = lines_after [] t
 
 -- what a line says, before the events of those after it
-abbrev pub saying_first : Parsed → List Event → List Event
-saying_first (Good e) es = e ∷ es
-saying_first Bad es = es
+abbrev pub saying_first : Option Event → List Event → List Event
+saying_first (Some e) es = e ∷ es
+saying_first None es = es
 
 -- the events that lines say, in order; a bad line says none
 unfoldable pub events_of : List (List ℕ) → List Event
@@ -42,10 +40,10 @@ abbrev pub bad_reply : Reply
 bad_reply = reply (Err BadEvent) []
 
 -- the reply to a line, before those to the lines after it: an event takes the next one of the run's, a bad line takes none of them
-abbrev pub reply_first : Parsed → List Reply → (List Reply → List Reply) → List Reply
-reply_first (Good e) [] others = []
-reply_first (Good e) (r ∷ rs) others = r ∷ others rs
-reply_first Bad rs others = bad_reply ∷ others rs
+abbrev pub reply_first : Option Event → List Reply → (List Reply → List Reply) → List Reply
+reply_first (Some e) [] others = []
+reply_first (Some e) (r ∷ rs) others = r ∷ others rs
+reply_first None rs others = bad_reply ∷ others rs
 
 -- the replies to lines, given those of the run to the events that they say
 unfoldable pub replies_to : List (List ℕ) → List Reply → List Reply

@@ -1,12 +1,11 @@
 -- What one call does: the whole lines at the front of a text are answered, as long as there is room for an answer of any length.
 -- Assumes nothing.
-use Rattle.std.specs.Prelude.{ℕ, ◌+◌, ◌-◌, Bool, cond, ◌&&◌, List, [], ◌∷◌, ◌++◌, leb, ltb, eqb, length, take, drop}
+use Rattle.std.specs.Prelude.{ℕ, ◌+◌, ◌-◌, Bool, cond, ◌&&◌, List, [], ◌∷◌, ◌++◌, leb, ltb, eqb, length, take, drop, Option, Some, None}
 use Rattle.std.proofs.lemmas.List.Edits.{sets}
 use Rattle.copies.specs.Tables.{Copies}
 use Rattle.rulebook.specs.Tables.{plant}
 use Rattle.digits.specs.Bytes.{LF}
-use Rattle.lines.specs.declared.Found.{Found}
-use Rattle.lines.specs.declared.Found.TheVariants.{Line, Nothing}
+use Rattle.lines.specs.declared.Line.{Line}
 use Rattle.lines.specs.Texts.{line_at}
 use Rattle.lines.specs.EventLines.{longest_line}
 use Rattle.lines.specs.Printed.{reply, answer_room}
@@ -93,13 +92,13 @@ put d line bytes at =
     record { at = at + length (says d line); desk = after d line; bytes = sets bytes at (says d line) }
 
 -- the line that starts at a position, where it has its LF and the call goes on
-abbrev pub only_whole : Found → Found
-only_whole (Line start end next) = cond (ltb end next) (Line start end next) Nothing
-only_whole Nothing = Nothing
+abbrev pub only_whole : Option Line → Option Line
+only_whole (Some line) = cond (ltb line.end line.next) (Some line) None
+only_whole None = None
 
 -- what the search for the next line to answer finds
-unfoldable pub whole_line : List ℕ → ℕ → ℕ → ℕ → Found
-whole_line t at room n = cond (goes_on room n) (only_whole (line_at t at)) Nothing
+unfoldable pub whole_line : List ℕ → ℕ → ℕ → ℕ → Option Line
+whole_line t at room n = cond (goes_on room n) (only_whole (line_at t at)) None
 
 -- ---- what is kept between two pieces
 -- of a line that has not ended, so many bytes: one that is longer than 64 is bad, whatever follows

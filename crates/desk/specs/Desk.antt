@@ -1,12 +1,10 @@
 -- Where a desk stands, and what one line does to it.
 -- Assumes nothing.
-use Rattle.std.specs.Prelude.{ℕ, ◌+◌, List}
+use Rattle.std.specs.Prelude.{ℕ, ◌+◌, List, Option, Some, None}
 use Rattle.rulebook.specs.declared.Event.{Event}
 use Rattle.rulebook.specs.Tables.{Plant}
 use Rattle.rulebook.specs.Steps.{Outcome, step_of}
 use Rattle.rulebook.specs.Run.{Reply, reply_to}
-use Rattle.lines.specs.declared.Parsed.{Parsed}
-use Rattle.lines.specs.declared.Parsed.TheVariants.{Good, Bad}
 use Rattle.lines.specs.EventLines.{event_line}
 use Rattle.lines.specs.Printed.{answer_text}
 use Rattle.desk.specs.Answers.{bad_reply}
@@ -32,9 +30,9 @@ abbrev pub heard_step : Event → Outcome → Heard
 heard_step e o = record { reply = reply_to e o; plant = o.plant; out = o.out }
 
 -- an event steps; a bad line gives code 3 and changes nothing
-abbrev pub heard_by : Plant → List ℕ → Parsed → Heard
-heard_by p out (Good e) = heard_step e (step_of p out e)
-heard_by p out Bad = record { reply = bad_reply; plant = p; out = out }
+abbrev pub heard_by : Plant → List ℕ → Option Event → Heard
+heard_by p out (Some e) = heard_step e (step_of p out e)
+heard_by p out None = record { reply = bad_reply; plant = p; out = out }
 
 -- what a line comes to
 unfoldable pub heard : Plant → List ℕ → List ℕ → Heard

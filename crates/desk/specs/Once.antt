@@ -1,11 +1,10 @@
 -- The promise of each public call of this crate, and of the printers below it, allows one result ("What the contracts are held to" in 01).
 -- The other calls of `digits` and `lines` promise that their result equals a definition.
 -- Assumes nothing.
-use Rattle.std.specs.Prelude.{ℕ, ◌≡◌, List, length}
+use Rattle.std.specs.Prelude.{ℕ, ◌≡◌, List, length, Option}
 use Rattle.std.proofs.lemmas.List.Edits.{sets}
 use Rattle.words.specs.Results.{OneResult}
 use Rattle.copies.specs.Tables.{Copies}
-use Rattle.digits.specs.declared.Wrote.{Wrote}
 use Rattle.desk.specs.declared.Fed.{Fed}
 use Rattle.desk.specs.Desk.{Desk}
 use Rattle.desk.specs.Calls.{given, called, kept}
@@ -35,7 +34,7 @@ KeepOnce =
 
 -- of the printers of numbers, events and answers, whatever they promise to say and to leave
 abbrev pub PrintOnce : Type 0
-PrintOnce = (says : Wrote) (leaves : List ℕ) → OneResult (λ (x : Given Wrote). (x.back ≡ says) × (x.bytes ≡ leaves))
+PrintOnce = (says : Option ℕ) (leaves : List ℕ) → OneResult (λ (x : Given (Option ℕ)). (x.back ≡ says) × (x.bytes ≡ leaves))
 
 -- THE STATEMENT: of all of them.
 abbrev pub EachOnce : Type 0

@@ -9,9 +9,8 @@ ghost use Rattle.desk.specs.Desk.{desk, heard};
 ghost use Rattle.desk.specs.Calls.{judged, put, answered, whole_line, given, called};
 
 use crate::{Fed, GREATEST_LINE};
-use digits::Wrote;
 use jobs::Job;
-use lines::{ANSWER_ROOM, Found, Parsed, event_line, line_at, write_answer};
+use lines::{ANSWER_ROOM, Line, event_line, line_at, write_answer};
 use rulebook::COMMIT;
 use words::{Answer, JOBS, Refusal, Serial, value};
 
@@ -59,26 +58,22 @@ fn judge(
     ensures { judged result (tables firsts.new lasts.new kinds.new values.new sent.new relto.new relkind.new relvalue.new received.new up.new) row.new
         ≡ heard (plant (tables firsts.old lasts.old kinds.old values.old sent.old relto.old relkind.old relvalue.old received.old up.old) jobs) row.old line.now }
 {
-    match event_line(line) {
-        Parsed::Good(event) => {
-            let stepped = machine::step(
-                jobs, firsts, lasts, kinds, values, sent, relto, relkind, relvalue, received, up,
-                row, event,
-            );
-            let answer = stepped.answer;
-            let slots = stepped.jobs;
-            let shown = shown(event.kind, answer);
-            Judged {
-                answer,
-                shown,
-                jobs: slots,
-            }
-        }
-        Parsed::Bad => Judged {
+    let Some(event) = event_line(line) else {
+        return Judged {
             answer: Err(Refusal::BadEvent),
             shown: 0,
             jobs,
-        },
+        };
+    };
+    let stepped = machine::step(
+        jobs, firsts, lasts, kinds, values, sent, relto, relkind, relvalue, received, up, row,
+        event,
+    );
+    let slots = stepped.jobs;
+    Judged {
+        answer: stepped.answer,
+        shown: shown(event.kind, stepped.answer),
+        jobs: slots,
     }
 }
 
@@ -109,38 +104,32 @@ fn answer(
     let said = judge(
         line, jobs, firsts, lasts, kinds, values, sent, relto, relkind, relvalue, received, up, row,
     );
-    let answer = said.answer;
-    let shown = said.shown;
+    let shown = &row[..said.shown.min(row.len())];
+    let next = write_answer(out, at, number, said.answer, shown).unwrap();
     let slots = said.jobs;
-    match write_answer(out, at, number, answer, row, shown) {
-        Wrote::To(next) => Answered {
-            at: next,
-            jobs: slots,
-        },
-        Wrote::Full => Answered { at, jobs: slots },
+    Answered {
+        at: next,
+        jobs: slots,
     }
 }
 
 // The line that starts at a position of a text, where it has its LF, there is room for an answer of any length, and the line number isn't
 // past the greatest.
-fn whole_line(text: &[u8], at: usize, room: usize, number: u64) -> Found
+#[tactic(auto, unfolding(crate::specs::Calls::whole_line))]
+fn whole_line(text: &[u8], at: usize, room: usize, number: u64) -> Option<Line>
     ensures { result ≡ whole_line text.now at room number }
 {
     if room < ANSWER_ROOM {
-        return Found::Nothing;
+        return None;
     }
     if GREATEST_LINE < number {
-        return Found::Nothing;
+        return None;
     }
-    match line_at(text, at) {
-        Found::Line(start, end, next) => {
-            if end < next {
-                return Found::Line(start, end, next);
-            }
-            Found::Nothing
-        }
-        Found::Nothing => Found::Nothing,
+    let line = line_at(text, at)?;
+    if line.next <= line.end {
+        return None;
     }
+    Some(line)
 }
 
 // Answers the whole lines at the front of a text, the first of which has the number given, into out from its start on, as long as out
@@ -170,17 +159,9 @@ pub fn feed(
     let mut at = 0;
     let mut count = number;
     let mut slots = jobs;
-    while start < text.len() {
-        let Found::Line(_, end, next) = whole_line(text, start, out.len() - at, count) else {
-            return Fed {
-                used: start,
-                written: at,
-                number: count,
-                jobs: slots,
-            };
-        };
+    while let Some(line) = whole_line(text, start, out.len() - at, count) {
         let said = answer(
-            &text[start..end],
+            &text[line.start..line.end],
             count,
             slots,
             firsts,
@@ -200,7 +181,7 @@ pub fn feed(
         at = said.at;
         slots = said.jobs;
         count += 1;
-        start = next;
+        start = line.next;
     }
     Fed {
         used: start,

@@ -7,22 +7,16 @@ use crate::KEPT;
 
 // Moves the bytes of buf from index from up to end to its start, but only as many as are kept of a line that has not ended. How many were
 // moved.
+#[tactic(auto, using(crate::proofs::Kept::keep_ways))]
 pub fn keep(buf: &mut [u8], from: usize, end: usize) -> usize
     ensures value { result ≡ length (kept buf.old from end) }
     ensures buf_after { buf.new ≡ sets buf.old 0 (kept buf.old from end) }
 {
-    let mut i = 0;
-    let mut p = from;
-    while p < end {
-        if buf.len() <= p {
-            return i;
-        }
-        if i == KEPT {
-            return i;
-        }
-        buf[i] = buf[p];
-        i += 1;
-        p += 1;
+    let stop = end.min(buf.len());
+    if stop <= from {
+        return 0;
     }
-    i
+    let count = KEPT.min(stop - from);
+    buf.copy_within(from..from + count, 0);
+    count
 }

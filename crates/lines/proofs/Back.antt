@@ -9,20 +9,19 @@ use native.Mathlib.Numerals.{add-one}
 use lib.Dec.{leb, ltb}
 use lib.ListN.{length, get_or, take, drop, length-append, length-drop}
 use lib.Seq.{drop-cons, drop-append_seam, drop-drop, take_all, take-nil}
-use borrow.Author.Tests.{lt-ltb, eq-eqb, leb-true, leb-false, ltb-true, ltb-false}
-use Rattle.digits.specs.declared.Number.TheVariants.{Is}
+use borrow.Author.Tests.{lt-ltb, le-ltb, eq-eqb, ne_eqb, leb-true, leb-false, ltb-true, ltb-false}
+use Rattle.std.specs.Prelude.{Some}
 use Rattle.digits.specs.Bytes.{space, LF}
 use Rattle.digits.specs.Reading.{greatest_number, digit_count, digit_value}
 use Rattle.digits.specs.Printing.{decimal}
 use Rattle.digits.proofs.Round.{reads_at}
 use Rattle.rulebook.specs.declared.Event.{Event}
 use Rattle.rulebook.specs.Events.{numbers, RESTART}
-use Rattle.lines.specs.declared.Parsed.TheVariants.{Good}
 use Rattle.lines.specs.Reader.{number_at}
-use Rattle.lines.specs.EventLines.{field_count, field_at, fields_from, event_line}
+use Rattle.lines.specs.EventLines.{longest_line, field_count, field_at, fields_from, event_line}
 use Rattle.lines.specs.Printed.{spaced, ended, line, event_text}
 use Rattle.lines.specs.Back.{Plain, EventBack}
-use Rattle.lines.proofs.Fields.{count_none, fields_all, line_known}
+use Rattle.lines.proofs.Fields.{count_none}
 use Rattle.lines.proofs.Long.{event_long}
 
 -- From a position of a line on these fields stand there, and nothing after them.
@@ -43,7 +42,7 @@ spaced_value (n ∷ ns) v = refl
 
 -- so a number before them is read, and they stand after it
 module _ (t : List ℕ) (p n : ℕ) (ns : List ℕ) (h : p ≤ length t) (e : drop p t ≡ decimal n ++ spaced ns) where
-  number_read : n ≤ greatest_number → number_at t p ≡ Is n (p + length (decimal n))
+  number_read : n ≤ greatest_number → number_at t p ≡ Some (n, p + length (decimal n))
   number_read g =
       reads_at t (spaced ns) p (length t) n (omega arith) h (take_all (length t - p) (drop p t) (omega (arith, length-drop p t)) ∙ e) g
       (spaced_count ns) (spaced_value ns)
@@ -58,7 +57,7 @@ module _ (t : List ℕ) (p n : ℕ) (ns : List ℕ) (h : p ≤ length t) (e : dr
 -- A field was read, and what stands after it.
 record Read (t : List ℕ) (p : ℕ) (wanted : Bool) (n : ℕ) (ns : List ℕ) : Type 0 where
   next : ℕ
-  is : field_at t p wanted ≡ Is n next
+  is : field_at t p wanted ≡ Some (n, next)
   after : Stand t next ns
 
 -- a field that is wanted is read where it stands
@@ -109,15 +108,15 @@ count e = field_count e.kind
 
 module _ (e : Event) (plain : Plain e) where
   -- the fields of an event are read back
-  fields_back : (t : List ℕ) (p : ℕ) → Stand t p (take (count e) (numbers e)) → Good e ≡ fields_from t e.kind (count e) p
+  fields_back : (t : List ℕ) (p : ℕ) → Stand t p (take (count e) (numbers e)) → fields_from t e.kind (count e) p ≡ Some e
+  unfolding fields_from
   fields_back t p s =
       let read = field_read t (count e) (numbers e) plain.small plain.zeros in
       let a = read 0 p (omega arith) (rw (sub-zero (count e)) s) in
       let b = read 1 a.next (omega arith) a.after in
       let c = read 2 b.next (omega arith) b.after in
       let d = read 3 c.next (omega arith) c.after in
-      fields_all t e.kind (count e) p _ e.a a.next refl a.is _ e.b b.next refl b.is _ e.c c.next refl c.is
-      _ e.d d.next refl d.is (stand_none t d.next (rw take-nil at d.after))
+      rw (a.is, b.is, c.is, d.is, eq-eqb d.next (length t) (stand_none t d.next (rw take-nil at d.after)))
 
   -- its kind is one of the seventeen
   kind_known : e.kind ≤ RESTART
@@ -129,14 +128,15 @@ module _ (e : Event) (plain : Plain e) where
 
   -- so is the line
   line_back : (t : List ℕ) → t ≡ decimal e.kind ++ spaced (take (count e) (numbers e)) → length t < length (event_text e)
-      → event_line t ≡ Good e
+      → event_line t ≡ Some e
+  unfolding event_line
   line_back t q l =
       let k = kind_known in
       let long = event_long e (omega arith) (λ i. omega (arith, plain.small i)) in
       let ns = take (count e) (numbers e) in
-      sym
-      (line_known t _ refl e.kind _ (count e) (number_read t 0 e.kind ns (omega arith) q (omega arith)) refl (Good e)
-      (λ z. omega (arith, plain.known)) (fields_back t _ (number_after t 0 e.kind ns (omega arith) q)) (omega arith))
+      let kind = number_read t 0 e.kind ns (omega arith) q (omega arith) in
+      rw (le-ltb longest_line (length t) (omega arith), kind, ne_eqb (count e) 0 (λ z. omega (arith, plain.known)))
+      (fields_back t _ (number_after t 0 e.kind ns (omega arith) q))
 
 -- the statement: without its LF, the line is the kind and its fields
 pub event_back : EventBack

@@ -1,51 +1,74 @@
 -- Laws of a text's lines: where one ends, and what was found of one. Assumes nothing.
-use Prim.Native.Nat.{ℕ, suc, ◌+◌, ◌≤◌, ◌<◌}
-use mathlib.Core.Path.{◌≡◌, refl, ap}
+use Prim.Native.Nat.{ℕ, ◌+◌, ◌-◌, ◌≤◌, ◌<◌}
+use mathlib.Core.Path.{◌≡◌, refl, ap, sym, ◌∙◌}
+use mathlib.Core.Bool.{Bool, true, false, not, cond}
 use mathlib.Core.List.{List}
 use native.Mathlib.Omega.{arith}
-use native.Mathlib.Numerals.{add-one}
-use lib.ListN.{length, get_or, drop, drop_of_length-le}
-use lib.Seq.{drop-cons}
-use borrow.Author.Tests.{eq-eqb, ne_eqb, lt-ltb, le-ltb}
+use lib.Dec.{ltb}
+use lib.ListN.{length, take, drop, length-drop}
+use lib.Seq.{take_all}
+use borrow.Author.Tests.{lt-ltb, le-ltb, ltb-true, ltb-false}
+use Rattle.std.specs.Prelude.{Option, Some, None, position, ◌==◌}
+use Rattle.std.specs.List.{position_or_len}
+use Rattle.std.proofs.lemmas.Option.{none-some, same_Some}
+use Rattle.std.proofs.lemmas.List.Recursion.{is_position_or_len}
+use Rattle.std.proofs.lemmas.List.Sums.{prefix_len-le-length}
 use Rattle.digits.specs.Bytes.{LF}
-use Rattle.lines.specs.declared.Found.TheVariants.{Line, Nothing}
 use Rattle.lines.specs.Texts.{until_end, line_end, line_at}
 
--- the loop that looks for a line's end: at first it is as far as the definition says
+-- where the line ends that goes on at a position, as the definition says
 pub end_start : (t : List ℕ) (at : ℕ) → line_end t at ≡ at + until_end (drop at t)
 unfolding line_end
 end_start t at = refl
 
--- at a position that the line goes on at, X is its end
-module _ (t : List ℕ) (i : ℕ) {X : ℕ} (e : X ≡ i + until_end (drop i t)) where
-  -- the text ends
-  pub end_all : length t ≤ i → i ≡ X
-  end_all h = omega (arith, ap until_end (drop_of_length-le t {i = i} h))
+-- an LF, as the library looks for the first
+abbrev pub is_end : ℕ → Bool
+is_end b = b == LF
 
-  module _ (h : i < length t) where
-    -- an LF
-    pub end_here : get_or t i 0 ≡ LF → i ≡ X
-    end_here b = let z : until_end (drop i t) ≡ 0 = rw (drop-cons t i 0 h, eq-eqb (get_or t i 0) LF b) in omega arith
+-- as many bytes stand before it as before the first LF, or in all
+until_place : (t : List ℕ) → until_end t ≡ position_or_len is_end t
+until_place t = is_position_or_len until_end is_end refl (λ x xs. ap (cond (is_end x) 0) (omega arith)) t
 
-    -- another byte: the line goes on after it
-    pub end_on : (get_or t i 0 ≡ LF → ⊥) → (j : ℕ) → j ≡ i + 1 → X ≡ j + until_end (drop j t)
-    end_on b j q =
-        let z : until_end (drop i t) ≡ suc (until_end (drop (suc i) t)) = rw (drop-cons t i 0 h, ne_eqb (get_or t i 0) LF b) in
-        rw (q, add-one) (omega arith)
+until_found : (t : List ℕ) (n : ℕ) → position is_end t ≡ Some n → (until_end t ≡ n) × (n < length t)
+until_found t n = by (ltb (position_or_len is_end t) (length t)) refl
+  where
+    by : (x : Bool) → ltb (position_or_len is_end t) (length t) ≡ x → cond x (Some (position_or_len is_end t)) None ≡ Some n
+        → (until_end t ≡ n) × (n < length t)
+    by true q e = let s = same_Some (position_or_len is_end t) n e in (until_place t ∙ s, omega (arith, ltb-true _ _ q))
+    by false q e = absurd (none-some n e)
 
--- the line that starts at a position: none, one with an LF, one without
+until_none : (t : List ℕ) → position is_end t ≡ None → until_end t ≡ length t
+until_none t = by (ltb (position_or_len is_end t) (length t)) refl
+  where
+    by : (x : Bool) → ltb (position_or_len is_end t) (length t) ≡ x → cond x (Some (position_or_len is_end t)) None ≡ None
+        → until_end t ≡ length t
+    by true q e = absurd (none-some (position_or_len is_end t) (sym e))
+    by false q e = omega (arith, until_place t, prefix_len-le-length (λ b. not (is_end b)) t, ltb-false _ _ q)
+
+-- the line that starts at a position
 module _ (t : List ℕ) (at : ℕ) where
-  pub line_none : length t ≤ at → Nothing ≡ line_at t at
+  -- none past the text's end
+  pub line_none : length t ≤ at → None ≡ line_at t at
   unfolding line_at
   line_none h = rw (le-ltb at (length t) h)
 
-  pub line_ended : at < length t → (e : ℕ) → e ≡ line_end t at → e < length t → Line at e (e + 1) ≡ line_at t at
-  unfolding line_at
-  line_ended h e q g = rw (lt-ltb at (length t) h, ← q, lt-ltb e (length t) g)
+  module _ (h : at < length t) {found : Option ℕ} (f : found ≡ position is_end (take (length t - at) (drop at t))) where
+    first : found ≡ position is_end (drop at t)
+    first = f ∙ ap (position is_end) (take_all (length t - at) (drop at t) (omega (arith, length-drop at t)))
 
-  pub line_last : at < length t → (e : ℕ) → e ≡ line_end t at → length t ≤ e → Line at e e ≡ line_at t at
-  unfolding line_at
-  line_last h e q g = rw (lt-ltb at (length t) h, ← q, le-ltb e (length t) g)
+    -- one with its LF
+    pub line_ended : {n : ℕ} → found ≡ Some n → Some (record { start = at; end = at + n; next = at + n + 1 }) ≡ line_at t at
+    unfolding line_at line_end
+    line_ended {n} e =
+        let u = until_found (drop at t) n (sym first ∙ e) in
+        rw (lt-ltb at (length t) h, u.0, lt-ltb (at + n) (length t) (omega (arith, u.1, length-drop at t)))
+
+    -- one that lacks it
+    pub line_last : found ≡ None → Some (record { start = at; end = length t; next = length t }) ≡ line_at t at
+    unfolding line_at line_end
+    line_last e =
+        let u : at + until_end (drop at t) ≡ length t = omega (arith, until_none (drop at t) (sym first ∙ e), length-drop at t) in
+        rw (lt-ltb at (length t) h, u, le-ltb (length t) (length t) (omega arith))
 
 -- what was found of a line, by the way that it went
-pub ruleset found_ways = (line_none, line_ended, line_last)
+pub ruleset line_ways = (line_none, line_ended, line_last)

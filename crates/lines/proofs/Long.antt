@@ -1,27 +1,27 @@
 -- How long lines can be, and that there is room for them. Assumes nothing.
-use Rattle.std.specs.Prelude.{Ok, Err}
 use Prim.Native.Nat.{ℕ, zero, suc, ◌+◌, ◌-◌, ◌*◌, ◌^◌, ◌≤◌, ◌<◌, min}
 use mathlib.Core.Path.{◌≡◌, refl, ap, sym, ◌∙◌}
 use mathlib.Core.Bool.{Bool, true, false}
 use mathlib.Core.List.{List, [], ◌∷◌}
-use native.Mathlib.Omega.{arith, min_cases}
+use native.Mathlib.Omega.{arith}
 use lib.Dec.{leb}
 use lib.ListN.{length, get_or, take, length-take}
-use lib.Seq.{sets, take_all, take-take, take-length}
+use lib.Seq.{sets}
+use Rattle.std.proofs.lemmas.List.{take_min}
 use borrow.Author.Tests.{leb-true, leb-false}
 use Rattle.words.specs.declared.Refusal.{Refusal}
 use Rattle.words.specs.Answers.{Answer, code_of, number_of, value_of}
-use Rattle.words.specs.declared.Refusal.TheVariants.{Short, NotWhole, BadEvent, Taken, None, Down, Up, Held, Full}
+use Rattle.words.specs.declared.Refusal.TheVariants.{Short, NotWhole, BadEvent, Taken, None as NoSuch, Down, Up, Held, Full}
 use Rattle.words.specs.declared.Refusal.TheVariants.{Copy, Locked, NoLock, Drawn, Range, Wait, Spent, Others, NoMessage}
 use Rattle.words.specs.Numbers.{out_count}
-use Rattle.digits.specs.declared.Wrote.TheVariants.{To, Full}
+use Rattle.std.specs.Prelude.{Some, Ok, Err}
 use Rattle.digits.specs.Printing.{decimal, wrote_at, written_at}
-use Rattle.digits.proofs.Laws.{room_none, room_short, room_found}
+use Rattle.digits.proofs.Laws.{room_found}
 use Rattle.digits.proofs.Round.{decimal_long}
 use Rattle.rulebook.specs.declared.Event.{Event}
 use Rattle.rulebook.specs.Events.{numbers, RESTART}
 use Rattle.lines.specs.EventLines.{field_count}
-use Rattle.lines.specs.Printed.{ended, line, event_text, event_room, reply, answer_text, answer_room, EndsBy}
+use Rattle.lines.specs.Printed.{ended, line, event_text, event_room, reply, answer_text, answer_room}
 use Rattle.lines.proofs.Fields.{count_none}
 use Rattle.lines.proofs.Puts.{line_length, ended_length, ended_none, line_text}
 
@@ -50,13 +50,13 @@ ended_long [] h = rw ended_none (omega arith)
 ended_long (n ∷ ns) h =
     omega (arith, ended_length n ns, decimal_long 10 n (omega arith) (omega (arith, h 0)), ended_long ns (λ i. h (suc i)))
 
--- no code has more than two digits
+-- no refusal has a number of more than two digits
 number_most : (r : Refusal) → number_of r ≤ 18
 number_most Short = omega arith
 number_most NotWhole = omega arith
 number_most BadEvent = omega arith
 number_most Taken = omega arith
-number_most None = omega arith
+number_most NoSuch = omega arith
 number_most Down = omega arith
 number_most Up = omega arith
 number_most Held = omega arith
@@ -91,54 +91,28 @@ line_most number code value ns n c v d l =
       decimal_long 10 value (omega arith) (omega arith),
     )
 
--- an answer line is at most as long as the room that is asked for it
-pub answer_room_lem : (number code value : ℕ) (a : Answer) (row : List ℕ) (shown : ℕ) → number < 2 ^ 64 → code ≡ code_of a → value < 2 ^ 32
-    → Narrow row → shown ≤ out_count → length (line number (code ∷ value ∷ take shown row)) ≤ answer_room
-answer_room_lem number code value a row shown n c v d l =
-    line_most number code value (take shown row) n (rw c (code_most a)) v (narrow_take shown row d) (omega (arith, length-take shown row))
+module _ (number code value : ℕ) (a : Answer) (row : List ℕ) (shown : ℕ) (c : code ≡ code_of a) where
+  -- an answer line is at most as long as the room that is asked for it
+  pub answer_long : number < 2 ^ 64 → value < 2 ^ 32 → Narrow row → shown ≤ out_count
+      → length (line number (code ∷ value ∷ take shown row)) ≤ answer_room
+  answer_long n v d l =
+      line_most number code value (take shown row) n (rw c (code_most a)) v (narrow_take shown row d) (omega (arith, length-take shown row))
 
--- the first of the first are the first of them; the first of a list are no more than it has
-take_least : (ns : List ℕ) (m n : ℕ) → take m (take n ns) ≡ take (min n m) ns
-take_least ns m n =
-    min_cases n m _ (λ h e. rw e (take_all m (take n ns) (omega (arith, length-take n ns)))) (λ h e. rw e (take-take m n ns h))
+  -- the line that is written is the answer's, which shows no more of a row than it has
+  module _ (v : value ≡ value_of a) (k : shown ≡ min out_count (length row)) where
+    answer_is : line number (code ∷ value ∷ take shown row) ≡ answer_text number (reply a row)
+    unfolding answer_text
+    answer_is = rw (c, v, k, take_min out_count row)
 
-take_within : (ns : List ℕ) (n : ℕ) → take (min n (length ns)) ns ≡ take n ns
-take_within ns n = min_cases n (length ns) _ (λ h e. rw e) (λ h e. rw e (take-length ns ∙ sym (take_all n ns h)))
+    -- so with room the position after it, and the bytes, are right
+    module _ (first : List ℕ) (at : ℕ) (h : at ≤ length first) (g : answer_room ≤ length first - at) where
+      pub answer_to : (s : ℕ) → s ≡ at + length (line number (code ∷ value ∷ take shown row))
+          → Some s ≡ wrote_at answer_room (length first) at (answer_text number (reply a row))
+      answer_to s e = ap Some (e ∙ ap (λ (l : List ℕ). at + length l) answer_is) ∙ (room_found answer_room first at _ h g).0
 
--- the line that is written is the answer's
-module _ (number : ℕ) (a : Answer) (row : List ℕ) (many code value most shown : ℕ) (c : code ≡ code_of a) (v : value ≡ value_of a)
-    (m : most ≡ min many out_count) (k : shown ≡ min most (length row)) where
-  answer_is : line number (code ∷ value ∷ take shown row) ≡ answer_text number (reply a (take many row))
-  unfolding answer_text
-  answer_is = rw (c, v, k, take_within row most, m, ← take_least row out_count many)
-
-  -- so with room the position after it, and the bytes, are right
-  module _ (first : List ℕ) (at : ℕ) (h : at ≤ length first) (g : answer_room ≤ length first - at) where
-    pub answer_to : (s : ℕ) → s ≡ at + length (line number (code ∷ value ∷ take shown row))
-        → To s ≡ wrote_at answer_room (length first) at (answer_text number (reply a (take many row)))
-    answer_to s e = ap To (e ∙ ap (λ (l : List ℕ). at + length l) answer_is) ∙ (room_found answer_room first at _ h g).0
-
-    pub answer_text_lem : (last : List ℕ) → last ≡ sets first at (line number (code ∷ value ∷ take shown row))
-        → last ≡ written_at answer_room first at (answer_text number (reply a (take many row)))
-    answer_text_lem last e = e ∙ ap (sets first at) answer_is ∙ (room_found answer_room first at _ h g).1
-
--- what is no longer than the room ends within it
-pub ends_to : (at s long room : ℕ) → s ≡ at + long → long ≤ room → EndsBy (at + room) (To s)
-ends_to at s long room e h next f = let z : next ≡ s = cc in omega arith
-
--- where nothing was written, there is nothing to end
-ends_full : (end : ℕ) → EndsBy end Full
-ends_full end next e = let z : ◌≡◌ {A = ℕ} 0 1 = cc in omega arith
-
--- with less room than is asked for, no answer is written
-module _ (out : List ℕ) (at end : ℕ) (text : List ℕ) where
-  pub answer_off : length out < at
-      → (Full ≡ wrote_at answer_room (length out) at text) × ((out ≡ written_at answer_room out at text) × EndsBy end Full)
-  answer_off h = let r = room_none answer_room out at text h in (r.0, (r.1, ends_full end))
-
-  pub answer_shut : at ≤ length out → length out - at < answer_room
-      → (Full ≡ wrote_at answer_room (length out) at text) × ((out ≡ written_at answer_room out at text) × EndsBy end Full)
-  answer_shut h k = let r = room_short answer_room out at text h k in (r.0, (r.1, ends_full end))
+      pub answer_bytes : (last : List ℕ) → last ≡ sets first at (line number (code ∷ value ∷ take shown row))
+          → last ≡ written_at answer_room first at (answer_text number (reply a row))
+      answer_bytes last e = e ∙ ap (sets first at) answer_is ∙ (room_found answer_room first at _ h g).1
 
 -- an event line is at most as long as the room that is asked for it: a kind that there is has two digits, any other no fields
 pub event_long : (e : Event) → e.kind < 2 ^ 32 → Narrow (numbers e) → length (event_text e) ≤ event_room
@@ -165,23 +139,28 @@ event_parts : (e : Event) → length (event_text e) ≡ length (decimal e.kind) 
 unfolding event_text
 event_parts e = line_length e.kind (take (field_count e.kind) (numbers e))
 
--- there is room for its kind
-pub kind_room : (e : Event) → e.kind < 2 ^ 32 → Narrow (numbers e) → length (decimal e.kind) ≤ event_room
-kind_room e k d = omega (arith, event_long e k d, event_parts e)
+module _ (e : Event) (at : ℕ) {count kind : ℕ} (c : count ≡ field_count e.kind) (k : kind ≡ e.kind) where
+  -- there is room for its kind
+  pub kind_room : kind < 2 ^ 32 → Narrow (numbers e) → length (decimal kind) ≤ event_room
+  kind_room h d = rw k (omega (arith, event_long e (omega arith) d, event_parts e))
 
-module _ (e : Event) (at p count : ℕ) (c : count ≡ field_count e.kind) (f : p ≡ at + length (decimal e.kind)) where
-  -- and for its fields
-  pub fields_room : e.kind < 2 ^ 32 → Narrow (numbers e) → p + length (ended (take count (numbers e))) ≤ at + event_room
-  fields_room k d = rw c (omega (arith, event_long e k d, event_parts e))
+  module _ {p : ℕ} (f : p ≡ at + length (decimal kind)) where
+    at_fields : p ≡ at + length (decimal e.kind)
+    at_fields = rw k at f
 
-  -- when they are written too, the position after them, and the bytes
-  module _ (first : List ℕ) (h : at ≤ length first) (g : event_room ≤ length first - at) where
-    pub event_to : (s : ℕ) → s ≡ p + length (ended (take count (numbers e))) → To s ≡ wrote_at event_room (length first) at (event_text e)
-    event_to s q =
-        let z : s ≡ at + length (event_text e) = omega (arith, event_parts e, rw c at q) in
-        ap To z ∙ (room_found event_room first at (event_text e) h g).0
+    -- and for its fields
+    pub fields_room : kind < 2 ^ 32 → Narrow (numbers e) → p + length (ended (take count (numbers e))) ≤ at + event_room
+    fields_room h d = rw c (omega (arith, at_fields, event_long e (omega arith) d, event_parts e))
 
-    pub event_text_lem : (out last : List ℕ) → last ≡ sets out p (ended (take count (numbers e))) → out ≡ sets first at (decimal e.kind)
-        → last ≡ written_at event_room first at (event_text e)
-    unfolding event_text
-    event_text_lem out last q o = (rw c at q) ∙ line_text first out at p e.kind _ f o ∙ (room_found event_room first at (event_text e) h g).1
+    -- when they are written too, the position after them, and the bytes
+    module _ (first : List ℕ) (h : at ≤ length first) (g : event_room ≤ length first - at) where
+      pub event_to : (s : ℕ) → s ≡ p + length (ended (take count (numbers e))) → Some s ≡ wrote_at event_room (length first) at (event_text e)
+      event_to s q =
+          let z : s ≡ at + length (event_text e) = omega (arith, at_fields, event_parts e, rw c at q) in
+          ap Some z ∙ (room_found event_room first at (event_text e) h g).0
+
+      pub event_bytes : (out last : List ℕ) → last ≡ sets out p (ended (take count (numbers e))) → out ≡ sets first at (decimal kind)
+          → last ≡ written_at event_room first at (event_text e)
+      unfolding event_text
+      event_bytes out last q o =
+          (rw c at q) ∙ line_text first out at p e.kind _ at_fields (rw k at o) ∙ (room_found event_room first at (event_text e) h g).1

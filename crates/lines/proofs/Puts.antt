@@ -5,47 +5,27 @@ use mathlib.Core.List.{List, [], ◌∷◌, ◌++◌, append_assoc}
 use native.Mathlib.Omega.{arith}
 use native.Mathlib.Nat.{add-zero, add-suc, suc-add}
 use native.Mathlib.Numerals.{add-one}
-use lib.ListN.{length, get_or, take, drop, set, length-append, length-take, length-set, drop_of_length-le}
-use lib.Seq.{sets, length-sets, drop-cons, get_or-take, length-take-le}
-use Rattle.digits.specs.declared.Wrote.{Wrote}
-use Rattle.digits.specs.declared.Wrote.TheVariants.{To, Full}
+use lib.ListN.{length, get_or, drop, set, length-append, drop_of_length-le}
+use lib.Seq.{sets, length-sets, drop-cons}
+use Rattle.std.specs.Prelude.{Option, Some}
 use Rattle.digits.specs.Bytes.{space, LF}
 use Rattle.digits.specs.Printing.{decimal, wrote_at, written_at}
 use Rattle.digits.proofs.Laws.{room_found}
 use Rattle.lines.specs.Printed.{spaced, ended, line}
 
 -- a text that is written where there is room for it
-module _ (first : List ℕ) (at : ℕ) (text : List ℕ) (w : Wrote) (e : w ≡ wrote_at (length text) (length first) at text)
+module _ (first : List ℕ) (at : ℕ) (text : List ℕ) (w : Option ℕ) (e : w ≡ wrote_at (length text) (length first) at text)
     (h : at + length text ≤ length first) where
-  said : w ≡ To (at + length text)
-  said = e ∙ sym (room_found (length text) first at text (omega arith) (omega arith)).0
-
-  -- the position after it
-  pub put_to : (next : ℕ) → w ≡ To next → next ≡ at + length text
-  put_to next g = let z : To next ≡ To (at + length text) = sym g ∙ said in cc
+  -- it is never refused, and this is the position after it
+  pub put_to : w ≡ Some (at + length text)
+  put_to = e ∙ sym (room_found (length text) first at text (omega arith) (omega arith)).0
 
   -- the bytes
   pub put_text : (last : List ℕ) → last ≡ written_at (length text) first at text → last ≡ sets first at text
   put_text last f = f ∙ sym (room_found (length text) first at text (omega arith) (omega arith)).1
 
-  -- it is never refused
-  pub put_full : w ≡ Full → ⊥
-  put_full g = let z : ◌≡◌ {A = ℕ} 0 1 = cc said in omega arith
-
--- a space and then a number: the position after them, and the bytes
-module _ (first last : List ℕ) (at n : ℕ) where
-  pub space_to : (r : ℕ) → r ≡ at + 1 + length (decimal n) → r ≡ at + (length (decimal n) + 1)
-  space_to r e = omega arith
-
-  pub space_text : last ≡ sets (set first at space) (at + 1) (decimal n) → last ≡ sets first at (space ∷ decimal n)
-  space_text e = e ∙ ap (λ (k : ℕ). sets (set first at space) k (decimal n)) (add-one at)
-
--- writing changes no length
-pub same_long : (first last : List ℕ) (at p x : ℕ) (text : List ℕ) → last ≡ sets (set first at x) p text → length last ≡ length first
-same_long first last at p x text e = ap length e ∙ length-sets (set first at x) p text ∙ length-set first at x
-
 -- what writing where there is room comes to
-pub ruleset with_room = (put_to, put_text, put_full)
+pub ruleset with_room = (put_to, put_text)
 
 -- a text in two parts is written part after part
 pub sets_append : (l : List ℕ) (i : ℕ) (a b : List ℕ) → sets l i (a ++ b) ≡ sets (sets l i a) (i + length a) b
@@ -109,35 +89,28 @@ pub line_text : (first out : List ℕ) (at p n : ℕ) (ns : List ℕ) → p ≡ 
     → sets out p (ended ns) ≡ sets first at (line n ns)
 line_text first out at p n ns e f = (number_next first out at p n ns e f (left_all first at (line n ns))).bytes
 
--- a turn of the loop that writes the first many numbers of a row: the next one is w
-module _ {first : List ℕ} {at : ℕ} {text : List ℕ} (row out : List ℕ) (many k p w : ℕ) (e : w ≡ get_or row k 0) (h : k < many)
-    (g : many ≤ length row) (l : Left first at text out p (ended (drop k (take many row)))) where
-  row_next : drop k (take many row) ≡ w ∷ drop (suc k) (take many row)
-  row_next =
-      let z : k < length (take many row) = rw (length-take-le many row g) h in
-      rw (drop-cons (take many row) k 0 z, get_or-take many row k 0 h, e)
-
-  next_left : Left first at text out p (ended (w ∷ drop (suc k) (take many row)))
-  next_left = rw row_next at l
+-- a turn of the loop that writes the numbers of a row: the next one is w
+module _ {first : List ℕ} {at : ℕ} {text : List ℕ} (row out : List ℕ) (k p w : ℕ) (e : w ≡ get_or row k 0) (h : k < length row)
+    (l : Left first at text out p (ended (drop k row))) where
+  next_left : Left first at text out p (ended (w ∷ drop (suc k) row))
+  next_left = rw (e, ← drop-cons row k 0 h) l
 
   -- there is room for it
   pub turn_room : at + length text ≤ length first → p + (length (decimal w) + 1) ≤ length out
   turn_room f =
       let z = next_left in
-      omega (arith, z.place, z.long, ended_length w (drop (suc k) (take many row)))
+      omega (arith, z.place, z.long, ended_length w (drop (suc k) row))
 
   -- then those after it are left
-  pub turn_next : (last : List ℕ) (r j : ℕ) → last ≡ sets out p (space ∷ decimal w) → r ≡ p + (length (decimal w) + 1) → j ≡ k + 1
-      → Left first at text last r (ended (drop j (take many row)))
-  turn_next last r j a b c = rw (c, add-one) (field_next out last p r w (drop (suc k) (take many row)) b a next_left)
+  pub turn_next : (last : List ℕ) (r : ℕ) → last ≡ sets out p (space ∷ decimal w) → r ≡ p + (length (decimal w) + 1)
+      → Left first at text last r (ended (drop (k + 1) row))
+  turn_next last r a b = rw add-one (field_next out last p r w (drop (suc k) row) b a next_left)
 
 -- after the last number LF is left
-module _ {first : List ℕ} {at : ℕ} {text : List ℕ} (row out : List ℕ) (many k p : ℕ) (h : many ≤ k)
-    (l : Left first at text out p (ended (drop k (take many row)))) where
+module _ {first : List ℕ} {at : ℕ} {text : List ℕ} (row out : List ℕ) (k p : ℕ) (h : length row ≤ k)
+    (l : Left first at text out p (ended (drop k row))) where
   end_left : Left first at text out p (LF ∷ [])
-  end_left =
-      let z : drop k (take many row) ≡ [] = drop_of_length-le (take many row) {i = k} (omega (arith, length-take many row)) in
-      rw (z, ended_none) at l
+  end_left = rw (drop_of_length-le row h, ended_none) at l
 
   -- there is room for it
   pub end_room : at + length text ≤ length first → p < length out
@@ -150,9 +123,8 @@ module _ {first : List ℕ} {at : ℕ} {text : List ℕ} (row out : List ℕ) (m
   pub end_text : set out p LF ≡ sets first at text
   end_text = end_left.bytes
 
-  -- no byte more or less
-  pub end_long : (x : ℕ) → length (set out p x) ≡ length first
-  end_long x = length-set out p x ∙ l.long
+-- what writing the numbers of a row comes to
+pub ruleset row_ways = (left_all, turn_room, turn_next, end_room, end_to, end_text)
 
 -- a line by its first number, two more, and the others: there is room for each part in its turn
 module _ (first : List ℕ) (at n a b : ℕ) (ns : List ℕ) (h : at + length (line n (a ∷ b ∷ ns)) ≤ length first) where

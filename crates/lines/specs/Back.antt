@@ -1,11 +1,10 @@
 -- Reading a printed event line gives the event back.
 -- Assumes nothing.
-use Rattle.std.specs.Prelude.{ℕ, ◌≤◌, ◌<◌, ◌≡◌, List, [], ◌∷◌, ◌++◌, get_or}
+use Rattle.std.specs.Prelude.{ℕ, ◌≤◌, ◌<◌, ◌≡◌, List, [], ◌∷◌, ◌++◌, get_or, Some}
 use Rattle.digits.specs.Bytes.{LF}
 use Rattle.digits.specs.Reading.{greatest_number}
 use Rattle.rulebook.specs.declared.Event.{Event}
 use Rattle.rulebook.specs.Events.{numbers}
-use Rattle.lines.specs.declared.Parsed.TheVariants.{Good}
 use Rattle.lines.specs.EventLines.{field_count, event_line}
 use Rattle.lines.specs.Printed.{event_text}
 
@@ -17,4 +16,4 @@ pub record Plain (e : Event) : Type 0 where
 
 -- THE STATEMENT: its line, without the LF, says that event.
 abbrev pub EventBack : Type 0
-EventBack = (e : Event) (t : List ℕ) → Plain e → event_text e ≡ t ++ (LF ∷ []) → event_line t ≡ Good e
+EventBack = (e : Event) (t : List ℕ) → Plain e → event_text e ≡ t ++ (LF ∷ []) → event_line t ≡ Some e

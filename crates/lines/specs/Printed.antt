@@ -1,10 +1,8 @@
 -- Event lines and answer lines as they are printed ("Around the step" in 01).
 -- Assumes nothing.
-use Rattle.std.specs.Prelude.{ℕ, ◌≤◌, ◌≡◌, List, [], ◌∷◌, ◌++◌, take}
+use Rattle.std.specs.Prelude.{ℕ, List, [], ◌∷◌, ◌++◌, take}
 use Rattle.words.specs.Answers.{Answer, code_of, value_of}
 use Rattle.words.specs.Numbers.{out_count}
-use Rattle.digits.specs.declared.Wrote.{Wrote}
-use Rattle.digits.specs.declared.Wrote.TheVariants.{To}
 use Rattle.digits.specs.Bytes.{space, LF}
 use Rattle.digits.specs.Printing.{decimal}
 use Rattle.rulebook.specs.declared.Event.{Event}
@@ -45,7 +43,3 @@ answer_text n r = line n (code_of r.answer ∷ value_of r.answer ∷ take out_co
 -- a code of two digits comes with value 0
 abbrev pub answer_room : ℕ
 answer_room = 167
-
--- where something was written, it ends by this position
-abbrev pub EndsBy : ℕ → Wrote → Type 0
-EndsBy end w = (next : ℕ) → w ≡ To next → next ≤ end

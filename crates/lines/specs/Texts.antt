@@ -1,9 +1,8 @@
 -- The lines of a text by their places.
 -- Assumes nothing.
-use Rattle.std.specs.Prelude.{ℕ, suc, ◌+◌, cond, List, [], ◌∷◌, ltb, eqb, length, drop}
+use Rattle.std.specs.Prelude.{ℕ, suc, ◌+◌, cond, List, [], ◌∷◌, ltb, eqb, length, drop, Option, Some, None}
 use Rattle.digits.specs.Bytes.{LF}
-use Rattle.lines.specs.declared.Found.{Found}
-use Rattle.lines.specs.declared.Found.TheVariants.{Line, Nothing}
+use Rattle.lines.specs.declared.Line.{Line}
 
 -- how many bytes stand before the first LF, or in all where there is none
 abbrev pub until_end : List ℕ → ℕ
@@ -14,9 +13,13 @@ until_end (b ∷ t) = cond (eqb b LF) 0 (suc (until_end t))
 unfoldable pub line_end : List ℕ → ℕ → ℕ
 line_end t at = at + until_end (drop at t)
 
--- the line that starts at a position: where it starts and ends, and where the next one starts; a last line may lack its LF
-unfoldable pub line_at : List ℕ → ℕ → Found
+-- where the line after one that ends at a position starts: past its LF, which a last line may lack
+abbrev pub next_start : List ℕ → ℕ → ℕ
+next_start t end = cond (ltb end (length t)) (end + 1) end
+
+-- the line that starts at a position
+unfoldable pub line_at : List ℕ → ℕ → Option Line
 line_at t at =
     cond (ltb at (length t))
-    (cond (ltb (line_end t at) (length t)) (Line at (line_end t at) (line_end t at + 1)) (Line at (line_end t at) (line_end t at)))
-    Nothing
+    (Some (record { start = at; end = line_end t at; next = next_start t (line_end t at) }))
+    None

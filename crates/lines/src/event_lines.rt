@@ -2,9 +2,8 @@
 ghost use Rattle.std.specs.Prelude.{◌≡◌};
 ghost use Rattle.lines.specs.EventLines.{field_count, field_at, fields_from, event_line};
 
+use crate::LONGEST_LINE;
 use crate::readers::number_at;
-use crate::{LONGEST_LINE, Parsed};
-use digits::Number;
 use rulebook::{Event, RESTART};
 
 // How many fields each kind has, by its number; there is no kind 0.
@@ -21,59 +20,47 @@ pub fn fields_of(kind: u32) -> usize
     FIELDS[kind as usize]
 }
 
-// The number after a space at a position of a line, or 0 and no step where no field is wanted.
-#[tactic(auto, using(crate::proofs::Fields::field_ways))]
-fn field(line: &[u8], at: usize, wanted: bool) -> Number
+// The number after a space at a position of a line, or 0 and no step where no field is wanted; and the position after it.
+#[tactic(auto, unfolding(crate::specs::EventLines::field_at))]
+fn field(line: &[u8], at: usize, wanted: bool) -> Option<(u32, usize)>
     ensures { result ≡ field_at line.now at wanted }
 {
     if !wanted {
-        return Number::Is(0, at);
+        return Some((0, at));
     }
-    if line.len() <= at {
-        return Number::Not;
-    }
-    if line[at] != b' ' {
-        return Number::Not;
+    if *line.get(at)? != b' ' {
+        return None;
     }
     number_at(line, at + 1)
 }
 
 // The event of a kind that has count fields, which start at a position of a line.
-fn fields_from(line: &[u8], kind: u32, count: usize, at: usize) -> Parsed
+#[tactic(auto, unfolding(crate::specs::EventLines::fields_from))]
+fn fields_from(line: &[u8], kind: u32, count: usize, at: usize) -> Option<Event>
     ensures { result ≡ fields_from line.now kind count at }
 {
-    let Number::Is(a, p) = field(line, at, 0 < count) else {
-        return Parsed::Bad;
-    };
-    let Number::Is(b, q) = field(line, p, 1 < count) else {
-        return Parsed::Bad;
-    };
-    let Number::Is(c, r) = field(line, q, 2 < count) else {
-        return Parsed::Bad;
-    };
-    let Number::Is(d, e) = field(line, r, 3 < count) else {
-        return Parsed::Bad;
-    };
-    if e == line.len() {
-        return Parsed::Good(Event { kind, a, b, c, d });
+    let (a, at) = field(line, at, 0 < count)?;
+    let (b, at) = field(line, at, 1 < count)?;
+    let (c, at) = field(line, at, 2 < count)?;
+    let (d, at) = field(line, at, 3 < count)?;
+    if at != line.len() {
+        return None;
     }
-    Parsed::Bad
+    Some(Event { kind, a, b, c, d })
 }
 
 // The event that a line says; the line is given without its end.
-#[tactic(auto, using(crate::proofs::Fields::line_ways))]
-pub fn event_line(line: &[u8]) -> Parsed
+#[tactic(auto, unfolding(crate::specs::EventLines::event_line))]
+pub fn event_line(line: &[u8]) -> Option<Event>
     ensures { result ≡ event_line line.now }
 {
     if LONGEST_LINE < line.len() {
-        return Parsed::Bad;
+        return None;
     }
-    let Number::Is(kind, at) = number_at(line, 0) else {
-        return Parsed::Bad;
-    };
+    let (kind, at) = number_at(line, 0)?;
     let count = fields_of(kind);
     if count == 0 {
-        return Parsed::Bad;
+        return None;
     }
     fields_from(line, kind, count, at)
 }

@@ -13,7 +13,6 @@ pub use printing::{write_answer, write_event};
 pub use readers::{
     LineReader, NumberRead, line_at, next_line, next_number, number_at, reader, rest,
 };
-use rulebook::Event;
 
 // An event line has at most so many bytes, its end not counted.
 pub const LONGEST_LINE: usize = 64;
@@ -23,16 +22,10 @@ pub const EVENT_ROOM: usize = 47;
 
 pub const ANSWER_ROOM: usize = 167;
 
-// What a line says: an event, or nothing that can be read, which is a BAD EVENT.
+// A line of a text: where it starts, where it ends and where the next one starts, which is past its LF.
 #[derive(Clone, Copy)]
-pub enum Parsed {
-    Good(Event),
-    Bad,
-}
-
-// A line of a text: where it starts, where it ends and where the next one starts, which is past its LF; or that there is none.
-#[derive(Clone, Copy)]
-pub enum Found {
-    Line(usize, usize, usize),
-    Nothing,
+pub struct Line {
+    pub start: usize,
+    pub end: usize,
+    pub next: usize,
 }

@@ -1,60 +1,49 @@
 // Lines as they are printed: numbers with one space between, and LF.
-ghost use Rattle.std.specs.Prelude.{◌≡◌, ◌∷◌, ◌+◌, ◌≤◌, min, length, take};
+ghost use Rattle.std.specs.Prelude.{◌≡◌, ◌∷◌, ◌+◌, ◌≤◌, length, IfSome};
 ghost use Rattle.std.proofs.lemmas.List.Edits.{sets};
 ghost use Rattle.digits.specs.Bytes.{space};
 ghost use Rattle.digits.specs.Printing.{decimal, wrote_at, written_at};
-ghost use Rattle.lines.specs.Printed.{ended, line, event_text, reply, answer_text, event_room, answer_room, EndsBy};
+ghost use Rattle.lines.specs.Printed.{ended, line, event_text, reply, answer_text, event_room, answer_room};
 
 use crate::event_lines::fields_of;
 use crate::{ANSWER_ROOM, EVENT_ROOM};
-use digits::{Wrote, print_number};
+use digits::print_number;
 use rulebook::Event;
 use words::{Answer, OUTPUT, Serial, code, value};
 
-fn wide(x: Serial) -> u64
-    ensures { result ≡ x }
-{
-    x as u64
-}
-
-// n at a position of out; the position after it.
+// n at a position of out that has room for it; the position after it.
 #[tactic(auto, using(crate::proofs::Puts::with_room))]
 fn put_number(out: &mut [u8], at: usize, n: u64) -> usize
     requires { at + length (decimal n) ≤ length out.old }
     ensures value { result ≡ at + length (decimal n) }
     ensures out_after { out.new ≡ sets out.old at (decimal n) }
 {
-    match print_number(out, at, n) {
-        Wrote::To(next) => next,
-        Wrote::Full => at,
-    }
+    print_number(out, at, n).unwrap()
 }
 
 // A space and n at a position of out; the position after them.
-fn put_field(out: &mut [u8], at: usize, n: u64) -> usize
+fn put_field(out: &mut [u8], at: usize, n: Serial) -> usize
     requires { at + (length (decimal n) + 1) ≤ length out.old }
     ensures value { result ≡ at + (length (decimal n) + 1) }
     ensures out_after { out.new ≡ sets out.old at (space ∷ decimal n) }
 {
     out[at] = b' ';
-    put_number(out, at + 1, n)
+    put_number(out, at + 1, u64::from(n))
 }
 
-// The first many numbers of row, a space before each, and LF; the position after it.
-fn put_fields(out: &mut [u8], at: usize, row: &[Serial], many: usize) -> usize
-    requires many_in_bounds { many ≤ length row.now }
-    requires row_in_bounds { at + length (ended (take many row.now)) ≤ length out.old }
-    ensures value { result ≡ at + length (ended (take many row.now)) }
-    ensures out_after { out.new ≡ sets out.old at (ended (take many row.now)) }
+// The numbers of row, a space before each, and LF; the position after it.
+#[tactic(auto, using(crate::proofs::Puts::row_ways))]
+fn put_fields(out: &mut [u8], at: usize, row: &[Serial]) -> usize
+    requires { at + length (ended row.now) ≤ length out.old }
+    ensures value { result ≡ at + length (ended row.now) }
+    ensures out_after { out.new ≡ sets out.old at (ended row.now) }
 {
-    let mut k = 0;
-    let mut p = at;
-    while k < many {
-        p = put_field(out, p, wide(row[k]));
-        k += 1;
+    let mut next = at;
+    for number in row {
+        next = put_field(out, next, *number);
     }
-    out[p] = b'\n';
-    p + 1
+    out[next] = b'\n';
+    next + 1
 }
 
 // An answer line at a position of out that has room for it; the position after it.
@@ -65,27 +54,19 @@ fn put_answer(
     code: u32,
     value: Serial,
     row: &[Serial],
-    many: usize,
 ) -> usize
-    requires many_in_bounds { many ≤ length row.now }
-    requires row_in_bounds { at + length (line number (code ∷ value ∷ take many row.now)) ≤ length out.old }
-    ensures value { result ≡ at + length (line number (code ∷ value ∷ take many row.now)) }
-    ensures out_after { out.new ≡ sets out.old at (line number (code ∷ value ∷ take many row.now)) }
+    requires { at + length (line number (code ∷ value ∷ row.now)) ≤ length out.old }
+    ensures value { result ≡ at + length (line number (code ∷ value ∷ row.now)) }
+    ensures out_after { out.new ≡ sets out.old at (line number (code ∷ value ∷ row.now)) }
 {
-    let p = put_number(out, at, number);
-    let q = put_field(out, p, code as u64);
-    let r = put_field(out, q, value as u64);
-    put_fields(out, r, row, many)
+    let after_number = put_number(out, at, number);
+    let after_code = put_field(out, after_number, code);
+    let after_value = put_field(out, after_code, value);
+    put_fields(out, after_value, row)
 }
 
-fn least(a: usize, b: usize) -> usize
-    ensures { result ≡ min a b }
-{
-    if a < b { a } else { b }
-}
-
-// An answer line at a position of out: the line's number, the answer's code and value, and the first many numbers of row, at most
-// twelve. It asks for room for any answer line; else out stays as it is.
+// An answer line at a position of out: the line's number, the answer's code and value, and the numbers of row, at most twelve. It asks
+// for room for any answer line; else out stays as it is.
 #[tactic(auto, using(digits::proofs::Laws::no_room))]
 pub fn write_answer(
     out: &mut [u8],
@@ -93,36 +74,36 @@ pub fn write_answer(
     number: u64,
     answer: Answer,
     row: &[Serial],
-    many: usize,
-) -> Wrote
-    ensures value { result ≡ wrote_at answer_room (length out.old) at (answer_text number (reply answer (take many row.now))) }
-    ensures out_after { out.new ≡ written_at answer_room out.old at (answer_text number (reply answer (take many row.now))) }
-    ensures ends_by { EndsBy (at + answer_room) result }
+) -> Option<usize>
+    ensures value { result ≡ wrote_at answer_room (length out.old) at (answer_text number (reply answer row.now)) }
+    ensures out_after { out.new ≡ written_at answer_room out.old at (answer_text number (reply answer row.now)) }
+    ensures ends_by { IfSome result (λ next. next ≤ at + answer_room) }
 {
     if out.len() < at {
-        return Wrote::Full;
+        return None;
     }
     if out.len() - at < ANSWER_ROOM {
-        return Wrote::Full;
+        return None;
     }
-    let shown = least(least(many, OUTPUT), row.len());
-    Wrote::To(put_answer(out, at, number, code(answer), value(answer), row, shown))
+    let shown = &row[..OUTPUT.min(row.len())];
+    Some(put_answer(out, at, number, code(answer), value(answer), shown))
 }
 
 // An event line at a position of out: the kind and exactly its fields. It asks for room for any event line; else out stays
 // as it is.
-#[tactic(auto, using(digits::proofs::Laws::no_room))]
-pub fn write_event(out: &mut [u8], at: usize, event: Event) -> Wrote
+#[tactic(auto, using(digits::proofs::Laws::no_room, crate::proofs::Fields::count_most))]
+pub fn write_event(out: &mut [u8], at: usize, event: Event) -> Option<usize>
     ensures value { result ≡ wrote_at event_room (length out.old) at (event_text event) }
     ensures out_after { out.new ≡ written_at event_room out.old at (event_text event) }
 {
     if out.len() < at {
-        return Wrote::Full;
+        return None;
     }
     if out.len() - at < EVENT_ROOM {
-        return Wrote::Full;
+        return None;
     }
-    let row = [event.a, event.b, event.c, event.d];
-    let p = put_number(out, at, event.kind as u64);
-    Wrote::To(put_fields(out, p, &row, fields_of(event.kind)))
+    let fields = [event.a, event.b, event.c, event.d];
+    let count = fields_of(event.kind);
+    let next = put_number(out, at, u64::from(event.kind));
+    Some(put_fields(out, next, &fields[..count]))
 }

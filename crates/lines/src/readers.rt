@@ -3,10 +3,9 @@ ghost use Rattle.std.specs.Prelude.{◌≡◌};
 ghost use Rattle.lines.specs.Texts.{line_at};
 ghost use Rattle.lines.specs.Reader.{reader_at, number_at, number_read};
 
-use crate::Found;
+use crate::Line;
 use crate::numbers::{number_from, past};
 use crate::texts::line_from;
-use digits::Number;
 
 // The line reader keeps the text and its place in it.
 #[derive(Clone, Copy)]
@@ -15,10 +14,10 @@ pub struct LineReader<'a> {
     pub at: usize,
 }
 
-// A number that was read, or that there is none; and the reader moved past it.
+// A number that was read and the position after it, or that there is none; and the reader moved past it.
 #[derive(Clone, Copy)]
 pub struct NumberRead<'a> {
-    pub number: Number,
+    pub number: Option<(u32, usize)>,
     pub reader: LineReader<'a>,
 }
 
@@ -52,21 +51,21 @@ pub fn next_number<'a>(reader: LineReader<'a>) -> NumberRead<'a>
 }
 
 // The line at a reader's place: where it starts and ends, and where the next one starts.
-pub fn next_line<'a>(reader: LineReader<'a>) -> Found
+pub fn next_line<'a>(reader: LineReader<'a>) -> Option<Line>
     ensures { result ≡ line_at reader.entry.text.now reader.entry.at }
 {
     line_from(reader.text, reader.at)
 }
 
 // The line that starts at a position of a text.
-pub fn line_at(text: &[u8], at: usize) -> Found
+pub fn line_at(text: &[u8], at: usize) -> Option<Line>
     ensures { result ≡ line_at text.now at }
 {
     next_line(rest(reader(text), at))
 }
 
-// The number that starts at a position of a text.
-pub fn number_at(text: &[u8], at: usize) -> Number
+// The number that starts at a position of a text, and the position after it.
+pub fn number_at(text: &[u8], at: usize) -> Option<(u32, usize)>
     ensures { result ≡ number_at text.now at }
 {
     next_number(rest(reader(text), at)).number

@@ -1,35 +1,32 @@
 // The lines of a text by their places.
-ghost use Rattle.std.specs.Prelude.{◌≡◌};
-ghost use Rattle.lines.specs.Texts.{line_end, line_at};
+ghost use Rattle.std.specs.Prelude.{◌≡◌, ◌==◌, position};
+ghost use Rattle.digits.specs.Bytes.{LF};
+ghost use Rattle.lines.specs.Texts.{line_at};
 
-use crate::Found;
+use crate::Line;
 
-// Where the line ends that goes on at a position: at its LF, or at the end of the text.
-#[tactic(auto, using(crate::proofs::Ends::end_start))]
-fn end_from(text: &[u8], at: usize) -> usize
-    ensures { result ≡ line_end text.now at }
+// How many bytes stand before the first LF of a text, if it has one.
+fn before_end(text: &[u8]) -> Option<usize>
+    ensures { result ≡ position (λ b. b == LF) text.now }
 {
-    let mut i = at;
-    while i < text.len() {
-        if text[i] == b'\n' {
-            return i;
-        }
-        i += 1;
-    }
-    i
+    text.iter().position(|b| *b == b'\n')
 }
 
-// The line that starts at a position.
-#[tactic(auto, using(crate::proofs::Ends::found_ways))]
-pub fn line_from(text: &[u8], at: usize) -> Found
+// The line that starts at a position; a last line may lack its LF.
+#[tactic(auto, using(crate::proofs::Ends::line_ways))]
+pub fn line_from(text: &[u8], at: usize) -> Option<Line>
     ensures { result ≡ line_at text.now at }
 {
     if text.len() <= at {
-        return Found::Nothing;
+        return None;
     }
-    let end = end_from(text, at);
-    if end < text.len() {
-        return Found::Line(at, end, end + 1);
-    }
-    Found::Line(at, end, end)
+    let (end, next) = match before_end(&text[at..]) {
+        Some(count) => (at + count, at + count + 1),
+        None => (text.len(), text.len()),
+    };
+    Some(Line {
+        start: at,
+        end,
+        next,
+    })
 }

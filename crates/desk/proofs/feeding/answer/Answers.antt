@@ -1,13 +1,14 @@
 -- `answer` meets its contract: with room for any answer, the line's own is written. Assumes nothing.
-use Rattle.desk.proofs.Ways.{answered_to, never_full}
+use Rattle.std.proofs.Common.{ap}
+use Rattle.std.specs.Prelude.{is_some}
+use Rattle.desk.proofs.Ways.{wrote_to, answered_to}
 use Rattle.desk.proofs.feeding.answer.Goals as goal
 
-pub returns-in-To-clause-out_after : goal.returns-in-To-clause-out_after
-returns-in-To-clause-out_after c =
-    let wrote = c.write_answer.ensures in
-    answered_to _ _ _ _ _ _ c.judge-said.result _ _ _ _ _ c.requires c.judge-said.ensures wrote.value wrote.out_after c.in-To.is
+pub unwrap-next-requires : goal.unwrap-next-requires
+unwrap-next-requires c = ap is_some (wrote_to _ _ _ c.requires _ c.write_answer.ensures.value)
 
-pub returns-in-Full-clause-out_after : goal.returns-in-Full-clause-out_after
-returns-in-Full-clause-out_after c =
+pub returns-clause-out_after : goal.returns-clause-out_after
+returns-clause-out_after c =
     let wrote = c.write_answer.ensures in
-    absurd (never_full _ _ _ _ _ c.requires wrote.value wrote.out_after c.in-Full.is)
+    answered_to _ _ _ _ _ _ c.judge-said.result _ _ _ _ _ _ c.requires c.judge-said.ensures c.min.ensures wrote.value wrote.out_after
+    c.unwrap-next.ensures

@@ -2,45 +2,40 @@
 use mathlib.Core.Path.{sym, ◌∙◌}
 use native.Mathlib.Omega.{arith}
 use Rattle.desk.proofs.Walks.{whole_found}
-use Rattle.desk.proofs.Still.{still_first, still_over, still_none, still_answered}
+use Rattle.desk.proofs.Still.{still_first, still_none, still_answered}
 use Rattle.desk.proofs.feeding.feed.Goals as goal
 
-pub loop-start-init : goal.loop-start-init
-loop-start-init c = (still_first _ _ _, omega arith, omega arith)
+pub loop-line-init : goal.loop-line-init
+loop-line-init c = (still_first _ _ _, omega arith, omega arith)
 
 pub slice_bounds-answer-count : goal.slice_bounds-answer-count
-slice_bounds-answer-count c = (whole_found _ _ _ _ (sym c.whole_line.ensures ∙ c.in-Line.is)).forward
+slice_bounds-answer-count c = (whole_found _ _ _ _ (sym c.whole_line.ensures ∙ c.in-Some.is)).forward
 
 pub slice_bounds-answer-start : goal.slice_bounds-answer-start
-slice_bounds-answer-start c = let w = whole_found _ _ _ _ (sym c.whole_line.ensures ∙ c.in-Line.is) in omega (arith, w.forward, w.inside)
+slice_bounds-answer-start c = let w = whole_found _ _ _ _ (sym c.whole_line.ensures ∙ c.in-Some.is) in omega (arith, w.forward, w.inside)
 
 pub slice_bounds-answer-end : goal.slice_bounds-answer-end
-slice_bounds-answer-end c = let w = whole_found _ _ _ _ (sym c.whole_line.ensures ∙ c.in-Line.is) in omega (arith, w.inside)
+slice_bounds-answer-end c = let w = whole_found _ _ _ _ (sym c.whole_line.ensures ∙ c.in-Some.is) in omega (arith, w.inside)
 
 pub answer-said-requires : goal.answer-said-requires
-answer-said-requires c = let w = whole_found _ _ _ _ (sym c.whole_line.ensures ∙ c.in-Line.is) in omega (arith, w.fits)
+answer-said-requires c = let w = whole_found _ _ _ _ (sym c.whole_line.ensures ∙ c.in-Some.is) in omega (arith, w.fits)
 
 pub overflow_add-count : goal.overflow_add-count
-overflow_add-count c = let w = whole_found _ _ _ _ (sym c.whole_line.ensures ∙ c.in-Line.is) in omega (arith, w.numbered)
+overflow_add-count c = let w = whole_found _ _ _ _ (sym c.whole_line.ensures ∙ c.in-Some.is) in omega (arith, w.numbered)
 
-pub loop-start-smaller : goal.loop-start-smaller
-loop-start-smaller c =
-    let w = whole_found _ _ _ _ (sym c.whole_line.ensures ∙ c.in-Line.is) in omega (arith, w.forward, w.inside, w.goes)
+pub loop-line-smaller : goal.loop-line-smaller
+loop-line-smaller c =
+    let w = whole_found _ _ _ _ (sym c.whole_line.ensures ∙ c.in-Some.is) in omega (arith, w.starts, w.forward, w.inside, w.goes)
 
-pub loop-start-preserved : goal.loop-start-preserved
-loop-start-preserved c =
-    let l = c.loop-start in
-    let found = rw l.auto.out at (sym c.whole_line.ensures ∙ c.in-Line.is) in
+pub loop-line-preserved : goal.loop-line-preserved
+loop-line-preserved c =
+    let l = c.loop-line in
+    let found = rw l.auto.out at (sym c.whole_line.ensures ∙ c.in-Some.is) in
     let w = whole_found _ _ _ _ found in
     let e = c.answer-said.ensures in
     (still_answered _ _ _ _ _ _ l.invariant.0 _ found e.out_after, omega (arith, w.inside, w.goes), omega (arith, e.at_bound, w.fits, l.invariant.2))
 
-pub returns-in_default-clause-out_after : goal.returns-in_default-clause-out_after
-returns-in_default-clause-out_after c =
-    let l = c.loop-start in
-    still_none _ _ _ _ _ _ l.invariant.0 (rw l.auto.out at (sym c.whole_line.ensures ∙ c.in_default.is))
-
 pub returns-clause-out_after : goal.returns-clause-out_after
 returns-clause-out_after c =
-    let l = c.loop-start in
-    still_over _ _ _ _ _ _ l.invariant.0 c.loop-start-test.false
+    let l = c.loop-line in
+    still_none _ _ _ _ _ _ l.invariant.0 (rw l.auto.out at (sym c.whole_line.ensures ∙ c.in_default.is))

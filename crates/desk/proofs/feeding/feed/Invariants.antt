@@ -10,10 +10,10 @@ use Rattle.desk.specs.Calls.{walk, called}
 use Rattle.desk.proofs.Still.{still}
 use Rattle.desk.proofs.feeding.feed.Given as goal
 
-abbrev pub invariant-loop-start : goal.invariant-loop-start
-invariant-loop-start l =
+abbrev pub invariant-loop-line : goal.invariant-loop-line
+invariant-loop-line l =
     (still (walk (length l.initial.out - l.at) [] l.start (desk l.count (plant (tables l.firsts l.lasts l.kinds l.values l.sent l.relto l.relkind l.relvalue l.received l.up) l.slots) l.row) (drop l.start l.text)) l.out l.at ≡ called (desk l.number (plant (tables l.initial.firsts l.initial.lasts l.initial.kinds l.initial.values l.initial.sent l.initial.relto l.initial.relkind l.initial.relvalue l.initial.received l.initial.up) l.initial.slots) l.initial.row) l.text l.initial.out)
     × (l.start ≤ length l.text) × (l.at ≤ length l.initial.out)
 
-abbrev pub decreases-loop-start : goal.decreases-loop-start
-decreases-loop-start l = length l.text - l.start
+abbrev pub decreases-loop-line : goal.decreases-loop-line
+decreases-loop-line l = length l.text - l.start
