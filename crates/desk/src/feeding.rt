@@ -1,7 +1,7 @@
 // Answering: a line is read, its event steps, the answer is printed; and so on through the whole lines of a text.
 ghost use Rattle.std.specs.Prelude.{◌≡◌, ◌+◌, ◌*◌, ◌≤◌, cond, eqb, length};
 ghost use Rattle.words.specs.Answers.{value_of};
-ghost use Rattle.copies.specs.Tables.{tables};
+ghost use Rattle.copies.specs.Columns.{lent, SameColumns};
 ghost use Rattle.rulebook.specs.Tables.{plant};
 ghost use Rattle.rulebook.specs.Events.{COMMIT};
 ghost use Rattle.lines.specs.Printed.{answer_room};
@@ -9,24 +9,17 @@ ghost use Rattle.desk.specs.Desk.{desk, heard};
 ghost use Rattle.desk.specs.Calls.{judged, put, answered, whole_line, given, called};
 
 use crate::{Fed, GREATEST_LINE};
+use copies::Lent;
 use jobs::Job;
 use lines::{ANSWER_ROOM, Line, event_line, line_at, write_answer};
 use rulebook::COMMIT;
 use words::{Answer, JOBS, Refusal, Serial, value};
 
-// What a line came to: the answer, how many numbers of the output it shows, and the jobs.
+// What a line came to: the answer, and how many numbers of the output it shows.
 #[derive(Clone, Copy)]
 struct Judged {
     answer: Answer,
     shown: usize,
-    jobs: [Job; JOBS],
-}
-
-// The position after an answer line, and the jobs.
-#[derive(Clone, Copy)]
-struct Answered {
-    at: usize,
-    jobs: [Job; JOBS],
 }
 
 // How many numbers of the output an answer shows: after a COMMIT three for each draw.
@@ -42,75 +35,45 @@ fn shown(kind: u32, answer: Answer) -> usize
 // The event that a line says steps; a line that says none is a BAD EVENT.
 fn judge(
     line: &[u8],
-    jobs: [Job; JOBS],
-    firsts: &mut [Serial],
-    lasts: &mut [Serial],
-    kinds: &mut [u32],
-    values: &mut [Serial],
-    sent: &mut [u32],
-    relto: &mut [u32],
-    relkind: &mut [u32],
-    relvalue: &mut [Serial],
-    received: &mut [u32],
-    up: &mut [u32],
+    jobs: &mut [Job; JOBS],
+    columns: &mut Lent<'_>,
     row: &mut [Serial],
 ) -> Judged
-    ensures { judged result (tables firsts.new lasts.new kinds.new values.new sent.new relto.new relkind.new relvalue.new received.new up.new) row.new
-        ≡ heard (plant (tables firsts.old lasts.old kinds.old values.old sent.old relto.old relkind.old relvalue.old received.old up.old) jobs) row.old line.now }
+    ensures same { SameColumns columns.old columns.new }
+    ensures leaves { judged result (plant (lent columns.new) jobs.new) row.new ≡ heard (plant (lent columns.old) jobs.old) row.old line.now }
 {
     let Some(event) = event_line(line) else {
         return Judged {
             answer: Err(Refusal::BadEvent),
             shown: 0,
-            jobs,
         };
     };
-    let stepped = machine::step(
-        jobs, firsts, lasts, kinds, values, sent, relto, relkind, relvalue, received, up, row,
-        event,
-    );
-    let slots = stepped.jobs;
+    let answer = machine::step(jobs, columns, row, event);
     Judged {
-        answer: stepped.answer,
-        shown: shown(event.kind, stepped.answer),
-        jobs: slots,
+        answer,
+        shown: shown(event.kind, answer),
     }
 }
 
-// The answer to a line at a position of out that has room for any; the position after it, and the jobs.
+// The answer to a line at a position of out that has room for any; the position after it.
 fn answer(
     line: &[u8],
     number: u64,
-    jobs: [Job; JOBS],
-    firsts: &mut [Serial],
-    lasts: &mut [Serial],
-    kinds: &mut [u32],
-    values: &mut [Serial],
-    sent: &mut [u32],
-    relto: &mut [u32],
-    relkind: &mut [u32],
-    relvalue: &mut [Serial],
-    received: &mut [u32],
-    up: &mut [u32],
+    jobs: &mut [Job; JOBS],
+    columns: &mut Lent<'_>,
     row: &mut [Serial],
     out: &mut [u8],
     at: usize,
-) -> Answered
+) -> usize
     requires { at + answer_room ≤ length out.old }
-    ensures out_after { answered result number (tables firsts.new lasts.new kinds.new values.new sent.new relto.new relkind.new relvalue.new received.new up.new) row.new out.new
-        ≡ put (desk number (plant (tables firsts.old lasts.old kinds.old values.old sent.old relto.old relkind.old relvalue.old received.old up.old) jobs) row.old) line.now out.old at }
-    ensures at_bound { result.at ≤ at + answer_room }
+    ensures same { SameColumns columns.old columns.new }
+    ensures leaves { answered result number (plant (lent columns.new) jobs.new) row.new out.new
+        ≡ put (desk number (plant (lent columns.old) jobs.old) row.old) line.now out.old at }
+    ensures at_bound { result ≤ at + answer_room }
 {
-    let said = judge(
-        line, jobs, firsts, lasts, kinds, values, sent, relto, relkind, relvalue, received, up, row,
-    );
+    let said = judge(line, jobs, columns, row);
     let shown = &row[..said.shown.min(row.len())];
-    let next = write_answer(out, at, number, said.answer, shown).unwrap();
-    let slots = said.jobs;
-    Answered {
-        at: next,
-        jobs: slots,
-    }
+    write_answer(out, at, number, said.answer, shown).unwrap()
 }
 
 // The line that starts at a position of a text, where it has its LF, there is room for an answer of any length, and the line number isn't
@@ -137,49 +100,22 @@ fn whole_line(text: &[u8], at: usize, room: usize, number: u64) -> Option<Line>
 pub fn feed(
     text: &[u8],
     number: u64,
-    jobs: [Job; JOBS],
-    firsts: &mut [Serial],
-    lasts: &mut [Serial],
-    kinds: &mut [u32],
-    values: &mut [Serial],
-    sent: &mut [u32],
-    relto: &mut [u32],
-    relkind: &mut [u32],
-    relvalue: &mut [Serial],
-    received: &mut [u32],
-    up: &mut [u32],
+    jobs: &mut [Job; JOBS],
+    columns: &mut Lent<'_>,
     row: &mut [Serial],
     out: &mut [u8],
 ) -> Fed
-    ensures out_after { given result (tables firsts.new lasts.new kinds.new values.new sent.new relto.new relkind.new relvalue.new received.new up.new) row.new out.new
-        ≡ called (desk number (plant (tables firsts.old lasts.old kinds.old values.old sent.old relto.old relkind.old relvalue.old received.old up.old) jobs) row.old) text.now out.old }
+    ensures same { SameColumns columns.old columns.new }
+    ensures leaves { given result (plant (lent columns.new) jobs.new) row.new out.new
+        ≡ called (desk number (plant (lent columns.old) jobs.old) row.old) text.now out.old }
     ensures used_in_bounds { (result.used ≤ length text.now) × (result.written ≤ length out.old) }
 {
     let mut start = 0;
     let mut at = 0;
     let mut count = number;
-    let mut slots = jobs;
     while let Some(line) = whole_line(text, start, out.len() - at, count) {
-        let said = answer(
-            &text[line.start..line.end],
-            count,
-            slots,
-            firsts,
-            lasts,
-            kinds,
-            values,
-            sent,
-            relto,
-            relkind,
-            relvalue,
-            received,
-            up,
-            row,
-            out,
-            at,
-        );
-        at = said.at;
-        slots = said.jobs;
+        let said = &text[line.start..line.end];
+        at = answer(said, count, jobs, columns, row, out, at);
         count += 1;
         start = line.next;
     }
@@ -187,6 +123,5 @@ pub fn feed(
         used: start,
         written: at,
         number: count,
-        jobs: slots,
     }
 }

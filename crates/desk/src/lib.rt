@@ -5,9 +5,7 @@ mod feeding;
 mod keeping;
 
 pub use feeding::feed;
-use jobs::Job;
 pub use keeping::keep;
-use words::JOBS;
 
 // Line numbers go on past 32 bits, up to this one, so that the number after it still fits 64.
 pub const GREATEST_LINE: u64 = 18_446_744_073_709_551_614;
@@ -15,11 +13,10 @@ pub const GREATEST_LINE: u64 = 18_446_744_073_709_551_614;
 // Of a line that has not ended, so many bytes are kept: one that is longer than 64 is bad, whatever follows.
 pub const KEPT: usize = 65;
 
-// What one call did: how many bytes of the text it used and how many it wrote, the next line's number, and the jobs.
+// What one call did: how many bytes of the text it used and how many it wrote, and the next line's number.
 #[derive(Clone, Copy)]
 pub struct Fed {
     pub used: usize,
     pub written: usize,
     pub number: u64,
-    pub jobs: [Job; JOBS],
 }

@@ -2,6 +2,7 @@
 use crate::Failure;
 use crate::answering::answer_all;
 use crate::reading::arrived;
+use copies::Lent;
 use desk::keep;
 use jobs::Job;
 use std::io::{Read, Write};
@@ -26,21 +27,21 @@ pub fn answer_lines<R: Read, W: Write>(input: &mut R, output: &mut W) -> Result<
     let mut received: [u32; RECEIVED] = [0; RECEIVED];
     let mut up: [u32; STATIONS] = [0; STATIONS];
     let mut row: [Serial; OUTPUT] = [0; OUTPUT];
-    let none = Job::begun(0).close();
-    let made = machine::empty(
-        [none; JOBS],
-        &mut firsts,
-        &mut lasts,
-        &mut kinds,
-        &mut values,
-        &mut sent,
-        &mut relto,
-        &mut relkind,
-        &mut relvalue,
-        &mut received,
-        &mut up,
-    );
-    let mut slots = made.jobs;
+    let mut columns = Lent {
+        firsts: &mut firsts,
+        lasts: &mut lasts,
+        kinds: &mut kinds,
+        values: &mut values,
+        sent: &mut sent,
+        relto: &mut relto,
+        relkind: &mut relkind,
+        relvalue: &mut relvalue,
+        received: &mut received,
+        up: &mut up,
+    };
+    let mut jobs = [Job::begun(0).close(); JOBS];
+    // The columns have their sizes, so the empty plant is not refused.
+    let _ = machine::empty(&mut jobs, &mut columns);
     let mut number = 1;
     let mut held = 0;
     for _ in 0..u64::MAX {
@@ -48,24 +49,14 @@ pub fn answer_lines<R: Read, W: Write>(input: &mut R, output: &mut W) -> Result<
         let left = answer_all(
             &buf[..piece.end],
             number,
-            slots,
-            &mut firsts,
-            &mut lasts,
-            &mut kinds,
-            &mut values,
-            &mut sent,
-            &mut relto,
-            &mut relkind,
-            &mut relvalue,
-            &mut received,
-            &mut up,
+            &mut jobs,
+            &mut columns,
             &mut row,
             &mut out,
             output,
         )
         .map_err(Failure::Writing)?;
         number = left.number;
-        slots = left.jobs;
         held = keep(&mut buf, left.used, piece.end);
         if piece.last {
             break;
