@@ -81,8 +81,8 @@ fn store_all(job: Job, columns: &mut Lent<'_>, out: &mut [Serial]) -> usize
     ensures leaves { store result (lent columns.new) out.new ≡ store_first job lock_count (store 0 (lent columns.old) out.old) }
 {
     let mut count = 0;
-    for i in 0..LOCKS {
-        count = count + store_one(columns, out, job.station, job.locks[i], count);
+    for lock in &job.locks {
+        count += store_one(columns, out, job.station, *lock, count);
     }
     count
 }

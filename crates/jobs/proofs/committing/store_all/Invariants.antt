@@ -5,8 +5,8 @@ use Rattle.copies.specs.Columns.{lent, SameColumns}
 use Rattle.jobs.specs.Store.{store, store_first}
 use Rattle.jobs.proofs.committing.store_all.Given as goal
 
-abbrev pub invariant-loop-i : goal.invariant-loop-i
-invariant-loop-i l =
-    (l.count ≤ l.i)
+abbrev pub invariant-loop-lock : goal.invariant-loop-lock
+invariant-loop-lock l =
+    (l.count ≤ l.lock-index)
     × SameColumns l.initial.columns l.columns
-    × (store l.count (lent l.columns) l.out ≡ store_first l.job l.i (store 0 (lent l.initial.columns) l.initial.out))
+    × (store l.count (lent l.columns) l.out ≡ store_first l.fn.job l.lock-index (store 0 (lent l.initial.columns) l.initial.out))
