@@ -76,7 +76,7 @@ draws_cons k t out d ds =
 
 module _ (n : ℕ) (l : Lock) where
   -- no draw: nothing is stored
-  one_none : (x : Store) → l.drawn ≡ 0 → store_one n l x ≡ x
+  pub one_none : (x : Store) → l.drawn ≡ 0 → store_one n l x ≡ x
   unfolding store_one
   one_none x e = rw (eq-eqb _ _ e)
 
@@ -94,10 +94,6 @@ module _ (n : ℕ) (l : Lock) where
   pub draws_some : (t : Copies) (ls : List Lock) → l.drawn ≢ 0 → draws_on t n (l ∷ ls) ≡ draw_of t n l ∷ draws_on t n ls
   unfolding draws_on
   draws_some t ls ne = rw (ne_eqb _ _ ne)
-
-  -- no draw, and none counted
-  pub none_stored : (k r : ℕ) (t : Copies) (out : List ℕ) → l.drawn ≡ 0 → r ≡ 0 → store (k + r) t out ≡ store_one n l (store k t out)
-  none_stored k r t out e z = rw (z, add-zero) (sym (one_none (store k t out) e))
 
   -- a draw, as it is stored: three numbers of the output, then the raise
   pub one_stored : (k : ℕ) (t : Copies) (out : List ℕ) → l.drawn ≢ 0 → store_one n l (store k t out) ≡ store (k + 1) (raise t l.series n l.drawn).copies (set (set (set out (3 * k) l.series) (3 * k + 1) (entry_there t.values l.series n)) (3 * k + 2) l.drawn)

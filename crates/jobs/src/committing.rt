@@ -46,7 +46,7 @@ fn fits(job: Job, columns: &Seen<'_>) -> bool
 }
 
 // Stores what a lock has drawn: three numbers into the output, behind those of so many draws, and the sum into the copy. 1 if there was a draw, else 0.
-#[tactic(auto, using(crate::proofs::Stored::none_stored, crate::proofs::Stored::one_stored))]
+#[tactic(auto, using(crate::proofs::Stored::one_none, crate::proofs::Stored::one_stored))]
 fn store_one(
     columns: &mut Lent<'_>,
     out: &mut [Serial],
