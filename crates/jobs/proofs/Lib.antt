@@ -2,7 +2,6 @@ pub mod Places
 pub mod Closing
 pub mod Crashing
 pub mod OneSlot
-pub mod Asking
 pub mod Reflect
 pub mod Unbroken
 pub mod Ways

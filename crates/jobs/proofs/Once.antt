@@ -8,10 +8,8 @@ use lib.ListN.{length, replicate, length-replicate, get_or-replicate}
 use lib.Seq.{get_or-set_same}
 use Rattle.words.proofs.Results.{one_result}
 use Rattle.jobs.specs.declared.Job.{Job}
-use Rattle.jobs.specs.Calls.{Stepped}
-use Rattle.jobs.specs.Calls.{Turn}
 use Rattle.jobs.specs.Slots.{no_slot, job_at}
-use Rattle.jobs.specs.Calls.{Outcome, outcome, turned}
+use Rattle.jobs.specs.Calls.{Stepped, Turn, Outcome, outcome, turned}
 use Rattle.jobs.specs.Once.{TurnOnce, ReadOnce, CommitOnce, CrashOnce, EachOnce}
 
 module _ (job : Job) (j : ℕ) where

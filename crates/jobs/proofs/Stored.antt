@@ -28,6 +28,7 @@ use Rattle.jobs.specs.Whole.{W4_differs}
 use Rattle.jobs.specs.Draws.{Draw, entry_there, draws_on, draws_of, committed, shown, fits}
 use Rattle.jobs.specs.Store.{Store, store, store_one, store_first}
 use Rattle.jobs.specs.Calls.{stepped, turn, turned, outcome, commits}
+use Rattle.jobs.proofs.OneSlot.{turns}
 use Rattle.jobs.proofs.Fitting.{Addable, value_there, Drawable, reflects_draw}
 
 -- ---- one copy raised
@@ -75,7 +76,7 @@ draws_cons k t out d ds =
 
 module _ (n : ℕ) (l : Lock) where
   -- no draw: nothing is stored
-  one_none : (x : Store) → l.drawn ≡ 0 → store_one n l x ≡ x
+  pub one_none : (x : Store) → l.drawn ≡ 0 → store_one n l x ≡ x
   unfolding store_one
   one_none x e = rw (eq-eqb _ _ e)
 
@@ -94,34 +95,21 @@ module _ (n : ℕ) (l : Lock) where
   unfolding draws_on
   draws_some t ls ne = rw (ne_eqb _ _ ne)
 
-  -- no draw, and none counted
-  pub none_stored : (k r : ℕ) (t : Copies) (out : List ℕ) → l.drawn ≡ 0 → r ≡ 0 → store (k + r) t out ≡ store_one n l (store k t out)
-  none_stored k r t out e z = rw (z, add-zero) (sym (one_none (store k t out) e))
-
   -- a draw, as it is stored: three numbers of the output, then the raise
-  pub one_stored : (k : ℕ) (t t' : Copies) (out : List ℕ) (v : ℕ) (a : Answer) → l.drawn ≢ 0 → v ≡ entry_there t.values l.series n → answered a t' ≡ raise t l.series n l.drawn → store (k + 1) t' (set (set (set out (3 * k) l.series) (3 * k + 1) v) (3 * k + 2) l.drawn) ≡ store_one n l (store k t out)
+  pub one_stored : (k : ℕ) (t : Copies) (out : List ℕ) → l.drawn ≢ 0 → store_one n l (store k t out) ≡ store (k + 1) (raise t l.series n l.drawn).copies (set (set (set out (3 * k) l.series) (3 * k + 1) (entry_there t.values l.series n)) (3 * k + 2) l.drawn)
   unfolding store_one
-  one_stored k t t' out v a ne p e = rw (ne_eqb _ _ ne, ← p, ← e, add-one (3 * k), add-two)
-
-  -- at most one draw more is counted
-  pub one_count : (x y : Store) → y ≡ store_one n l x → y.count ≤ x.count + 1
-  unfolding store_one
-  one_count x y e = rw e (dite (ℕ_discrete l.drawn 0) (λ z. rw (eq-eqb _ _ z) (omega arith)) (λ ne. rw (ne_eqb _ _ ne) (omega arith)))
+  one_stored k t out ne = rw (ne_eqb _ _ ne, add-one (3 * k), add-two)
 
 -- ---- the loop over the places of a job
 -- no turn yet
-pub store_none : (b : Job) (x : Store) → x ≡ store_first b 0 x
+pub store_none : (b : Job) (x : Store) → store_first b 0 x ≡ x
 unfolding store_first
 store_none b x = refl
 
--- one turn more, to j
-pub store_next : (b : Job) (i j : ℕ) (x y z : Store) → x ≡ store_first b i z → y ≡ store_one b.station (lock_at b i) x → j ≡ i + 1 → y ≡ store_first b j z
+-- one turn more
+pub store_next : (b : Job) (i : ℕ) (x : Store) → store_first b (i + 1) x ≡ store_one b.station (lock_at b i) (store_first b i x)
 unfolding store_first
-store_next b i j x y z p q e = rw (e, add-one, ← p) q
-
--- the loop is at the last place
-pub store_end : (b : Job) (n i : ℕ) (x z : Store) → i ≤ n → n ≤ i → x ≡ store_first b i z → x ≡ store_first b n z
-store_end b n i x z le ge e = let same : n ≡ i = omega arith in rw same e
+store_next b i x = rw add-one
 
 -- ---- the places of a job, from the front
 -- the lock at place i
@@ -204,7 +192,5 @@ stored_whole b t out four fit =
     apart : SeriesDiffer b.locks
     apart i k le lt d e = differs_earlier b i k (at i le d).1 lt (at k (omega arith) e).0.1
 
--- COMMIT accepted: with the job's draws stored its slot is closed
-pub commit_stored : (bs : List Job) (j : ℕ) (b b' : Job) (t t' : Copies) (out out' : List ℕ) (r : ℕ) → b' ≡ no_job → length b.locks ≡ lock_count → fits t.lasts t.values b ≡ true → store r t' out' ≡ store_first b lock_count (store 0 t out) → outcome (turned bs j (turn (Ok r) b')) t' out' ≡ commits t bs out j (draws_of t b)
-commit_stored bs j b b' t t' out out' r e four fit p =
-    rw e (ap (λ (x : Store). outcome (stepped (Ok x.count) (set bs j no_job)) x.copies x.out) (p ∙ stored_whole b t out four fit))
+-- each way out of COMMIT
+pub ruleset outcomes = (stored_whole, turns)

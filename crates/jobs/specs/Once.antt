@@ -5,10 +5,8 @@ use Rattle.words.specs.Answers.{Answer}
 use Rattle.words.specs.Results.{OneResult}
 use Rattle.copies.specs.Tables.{Copies}
 use Rattle.jobs.specs.declared.Job.{Job}
-use Rattle.jobs.specs.Calls.{Stepped}
-use Rattle.jobs.specs.Calls.{Turn}
 use Rattle.jobs.specs.Slots.{job_at}
-use Rattle.jobs.specs.Calls.{Outcome, outcome, turned}
+use Rattle.jobs.specs.Calls.{Stepped, Turn, Outcome, outcome, turned}
 
 -- of BEGIN, LOCKX, LOCKS, DRAW and ABORT: the answer and the slot's job
 abbrev pub TurnOnce : Type 0

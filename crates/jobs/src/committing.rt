@@ -1,4 +1,6 @@
 // COMMIT: every count that the job has drawn is added to its copy's value, and the serials leave the machine.
+#![tactic(auto, using(crate::proofs::Stored::outcomes), unfolding(crate::specs::Calls::commit, crate::specs::Calls::commit_in))]
+
 ghost use Rattle.std.specs.Prelude.{◌≡◌, List, ℕ, ◌+◌, ◌<◌, ◌≤◌, length};
 ghost use Rattle.words.specs.Numbers.{series_count, lock_count, place_count, out_count};
 ghost use Rattle.copies.specs.Columns.{lent, seen, SameColumns};
@@ -14,6 +16,7 @@ use copies::{Lent, Seen, beyond, raise, value};
 use words::{Answer, GREATEST_SERIAL, JOBS, LOCKS, OUTPUT, PLACES, Refusal, SERIES, Serial};
 
 // Whether what place i has drawn can be added to its copy's value: always so in whole tables.
+#[tactic(auto, using(copies::proofs::Guards::chain), unfolding(crate::specs::Draws::draw_fits, words::specs::Tests::non))]
 fn draw_fits(job: Job, columns: &Seen<'_>, i: usize) -> bool
     requires { i < lock_count }
     ensures { result ≡ draw_fits columns.now.lasts.now columns.now.values.now job i }
@@ -31,6 +34,7 @@ fn draw_fits(job: Job, columns: &Seen<'_>, i: usize) -> bool
 }
 
 // Whether all that the job has drawn can be added.
+#[tactic(auto, using(words::proofs::Laws::all_none, words::proofs::Laws::all_next, words::proofs::Laws::all_end), unfolding(crate::specs::Draws::fits))]
 fn fits(job: Job, columns: &Seen<'_>) -> bool
     ensures { result ≡ fits columns.now.lasts.now columns.now.values.now job }
 {
@@ -42,6 +46,7 @@ fn fits(job: Job, columns: &Seen<'_>) -> bool
 }
 
 // Stores what a lock has drawn: three numbers into the output, behind those of so many draws, and the sum into the copy. 1 if there was a draw, else 0.
+#[tactic(auto, using(crate::proofs::Stored::one_none, crate::proofs::Stored::one_stored))]
 fn store_one(
     columns: &mut Lent<'_>,
     out: &mut [Serial],
@@ -51,6 +56,7 @@ fn store_one(
 ) -> usize
     requires { (out_count ≤ length out.old) × (count < lock_count) }
     ensures same { SameColumns columns.old columns.new }
+    ensures most { result ≤ 1 }
     ensures leaves { store (count + result) (lent columns.new) out.new ≡ store_one station lock (store count (lent columns.old) out.old) }
 {
     let drawn = lock.drawn;
@@ -66,6 +72,7 @@ fn store_one(
 }
 
 // Stores all that the job has drawn, in order of locking; how many draws there were.
+#[tactic(auto, using(crate::proofs::Stored::store_none, crate::proofs::Stored::store_next))]
 fn store_all(job: Job, columns: &mut Lent<'_>, out: &mut [Serial]) -> usize
     requires { out_count ≤ length out.old }
     ensures same { SameColumns columns.old columns.new }
@@ -74,8 +81,8 @@ fn store_all(job: Job, columns: &mut Lent<'_>, out: &mut [Serial]) -> usize
     ensures leaves { store result (lent columns.new) out.new ≡ store_first job lock_count (store 0 (lent columns.old) out.old) }
 {
     let mut count = 0;
-    for i in 0..LOCKS {
-        count = count + store_one(columns, out, job.station, job.locks[i], count);
+    for lock in &job.locks {
+        count += store_one(columns, out, job.station, *lock, count);
     }
     count
 }

@@ -1,4 +1,6 @@
 // DRAW and READ: what a job does with the series that it locks. No serial leaves the machine here.
+#![tactic(auto, using(crate::proofs::OneSlot::turns), unfolding(crate::specs::Calls::draw, crate::specs::Calls::draw_in, crate::specs::Calls::read, crate::specs::Calls::read_in))]
+
 ghost use Rattle.std.specs.Prelude.{◌≡◌, List, ℕ, ◌<◌, ◌≤◌, length};
 ghost use Rattle.words.specs.Numbers.{series_count, place_count};
 ghost use Rattle.copies.specs.Columns.{seen};

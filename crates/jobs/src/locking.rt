@@ -1,5 +1,7 @@
 // BEGIN, LOCKX, LOCKS and ABORT: a job opens, locks, and closes with its copies unchanged.
-ghost use Rattle.std.specs.Prelude.{◌≡◌, List, ◌<◌, ◌≤◌, length};
+#![tactic(auto, using(crate::proofs::OneSlot::turns), unfolding(crate::specs::Calls::begin, crate::specs::Calls::lock_in, crate::specs::Calls::lockx, crate::specs::Calls::locks, crate::specs::Calls::abort))]
+
+ghost use Rattle.std.specs.Prelude.{◌≡◌, List, ℕ, ◌<◌, ◌≤◌, length};
 ghost use Rattle.words.specs.Numbers.{series_count, place_count};
 ghost use Rattle.copies.specs.Columns.{seen};
 ghost use Rattle.jobs.specs.declared.Job.{Job};
