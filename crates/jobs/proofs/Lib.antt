@@ -1,6 +1,6 @@
 pub mod Places
+pub mod Turns
 pub mod Closing
-pub mod Crashing
 pub mod OneSlot
 pub mod Reflect
 pub mod Unbroken

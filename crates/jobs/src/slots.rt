@@ -9,6 +9,7 @@ use copies::Lent;
 use words::{Answer, JOBS};
 
 // Whether no job locks the copy of a series at a station.
+#[tactic(auto, using(crate::proofs::Turns::turns), unfolding(crate::specs::Slots::free, words::specs::Tests::non))]
 pub fn is_free(jobs: &[Job; JOBS], series: u32, station: u32) -> bool
     ensures { result ≡ free jobs.now series station }
 {
@@ -20,6 +21,7 @@ pub fn is_free(jobs: &[Job; JOBS], series: u32, station: u32) -> bool
 }
 
 // The jobs of a station are closed; how many they were.
+#[tactic(auto, using(crate::proofs::Closing::closing), unfolding(crate::specs::Slots::closed_at, crate::specs::Slots::count_at, words::specs::Tests::one_if))]
 pub fn close_station(jobs: &mut [Job; JOBS], station: u32) -> u32
     ensures closed { jobs.new ≡ closed_at station jobs.old }
     ensures count { result ≡ count_at station jobs.old }
@@ -35,6 +37,7 @@ pub fn close_station(jobs: &mut [Job; JOBS], station: u32) -> u32
 }
 
 // 16 CRASH: the station is down, its jobs are closed; the value is how many.
+#[tactic(auto, using(copies::proofs::Guards::guards), unfolding(crate::specs::Calls::crash, copies::specs::Calls::crash))]
 pub fn crash(jobs: &mut [Job; JOBS], columns: &mut Lent<'_>, station: u32) -> Answer
     ensures same { SameColumns columns.old columns.new }
     ensures leaves { (out : List ℕ) → outcome (stepped result jobs.new) (lent columns.new) out ≡ crash (lent columns.old) jobs.old out station }
