@@ -2,10 +2,9 @@
 -- Assumes nothing.
 use mathlib.Core.Path.{◌≡◌, sym, ◌∙◌}
 use mathlib.Core.Bool.{Bool, true, false}
-use Rattle.std.specs.Prelude.{Option, Some, None, Result, Ok, Err}
+use Rattle.std.specs.Prelude.{Option, Some, None, Ok, Err}
 use Rattle.words.specs.declared.Rule.{Rule}
 use Rattle.words.specs.declared.Rule.TheVariants.{W1}
-use Rattle.words.specs.declared.Flaw.{Flaw}
 use Rattle.words.specs.declared.Flaw.TheVariants.{Short, Broken}
 use Rattle.words.specs.Tests.{broken, ◌or_else◌}
 use Rattle.copies.specs.Tables.{Copies, short_copies}

@@ -227,7 +227,6 @@ fn tokens_fine(columns: &Seen<'_>, s: usize) -> bool
 }
 
 // W5 of a series that isn't open: its last number and its row of each column are zero.
-#[tactic(auto, using(crate::proofs::ZeroRows::closed_rows))]
 fn closed_fine(columns: &Seen<'_>, s: usize) -> bool
     requires { Long (seen columns.now) × (s < series_count) }
     ensures { result ≡ W5_closed (series_at (seen columns.now) s) }

@@ -2,9 +2,9 @@
 -- Assumes nothing.
 use Prim.Native.Nat.{ℕ}
 use mathlib.Core.Path.{◌≡◌}
-use mathlib.Core.Bool.{true, false}
+use mathlib.Core.Bool.{false}
 use mathlib.Core.List.{List}
-use Rattle.std.specs.Prelude.{None, Ok}
+use Rattle.std.specs.Prelude.{Ok}
 use Rattle.words.specs.declared.Rule.TheVariants.{W1, W4, W5}
 use Rattle.words.specs.Numbers.{job_count}
 use Rattle.words.proofs.Reflects.{Clears, clears_as, clears_broken, clears_or, clears_first}
@@ -13,10 +13,9 @@ use Rattle.copies.specs.FirstBroken.{found_by}
 use Rattle.copies.proofs.Unbroken.{found_whole}
 use Rattle.jobs.specs.declared.Job.{Job}
 use Rattle.jobs.specs.Slots.{job_at}
-use Rattle.jobs.specs.Whole.{W1_jobs, W4_jobs, W5_jobs}
 use Rattle.jobs.specs.FirstBroken.{broken_job, first_broken_job, short_for_jobs, check_jobs}
 use Rattle.jobs.specs.Facts.{JobWhole, JobsWhole}
-use Rattle.jobs.proofs.Reflect.{W1_job_reflects, W4_job_reflects, W5_job_reflects, to_whole, from_whole, jobs_facts, facts_jobs}
+use Rattle.jobs.proofs.Reflect.{W1_job_reflects, W4_job_reflects, W5_job_reflects, to_whole, from_whole}
 
 module _ (t : Copies) (bs : List Job) where
   -- the walk passes slot j exactly where it is whole

@@ -7,10 +7,9 @@ use mathlib.Core.List.{List, [], ◌∷◌}
 use lib.Dec.{eqb}
 use lib.ListN.{length}
 use borrow.Author.Tests.{eq-eqb, ne_eqb, not-true, not-false}
-use Rattle.std.specs.Prelude.{Option, Some, None, Result, Ok, Err}
+use Rattle.std.specs.Prelude.{Option, Some, None, Ok, Err}
 use Rattle.words.specs.declared.Rule.{Rule}
 use Rattle.words.specs.declared.Rule.TheVariants.{W1, W4, W5}
-use Rattle.words.specs.declared.Flaw.{Flaw}
 use Rattle.words.specs.declared.Flaw.TheVariants.{Short, Broken}
 use Rattle.words.specs.Numbers.{station_count, series_count, lock_count, place_count, share, exclusive}
 use Rattle.words.specs.Tests.{non, ◌and◌, ◌or◌, ◌⇒◌, all_below, some_below, broken, ◌or_else◌}

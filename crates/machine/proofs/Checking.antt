@@ -1,5 +1,4 @@
 -- The check of all tables from the two layers' walks: a law for each way out of `check`. Assumes nothing.
-use Prim.Native.Nat.{ℕ}
 use mathlib.Core.Path.{◌≡◌, sym, ◌∙◌}
 use mathlib.Core.Bool.{Bool, true, false, cond}
 use mathlib.Core.List.{List}
@@ -8,7 +7,7 @@ use borrow.Author.Tests.{le-ltb}
 use Rattle.std.specs.Prelude.{Option, Some, None, Result, Ok, Err}
 use Rattle.words.specs.declared.Rule.{Rule}
 use Rattle.words.specs.declared.Flaw.{Flaw}
-use Rattle.words.specs.declared.Flaw.TheVariants.{Short, Broken}
+use Rattle.words.specs.declared.Flaw.TheVariants.{Short}
 use Rattle.words.specs.Numbers.{station_count, series_count, job_count, place_count}
 use Rattle.words.specs.Tests.{◌or◌, ◌or_else◌}
 use Rattle.copies.specs.Tables.{Copies, short_copies}

@@ -2,9 +2,8 @@
 -- Assumes nothing.
 use mathlib.Core.Path.{◌≡◌, refl}
 use mathlib.Core.Bool.{Bool, true, false, cond}
-use Rattle.std.specs.Prelude.{Option, Some, None, Result, Ok, Err}
+use Rattle.std.specs.Prelude.{Option, Some, None, Ok, Err}
 use Rattle.words.specs.declared.Rule.{Rule}
-use Rattle.words.specs.declared.Flaw.{Flaw}
 use Rattle.words.specs.declared.Flaw.TheVariants.{Short, Broken}
 use Rattle.words.specs.Tests.{◌and◌, ◌or_else◌}
 use Rattle.words.proofs.Laws.{both_true}
