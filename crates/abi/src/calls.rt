@@ -31,7 +31,18 @@ pub extern "C" fn druvisha_empty(
     ensures { made result (plant (tables firsts.new lasts.new kinds.new values.new sent.new relto.new relkind.new relvalue.new received.new up.new) jobs.new)
         ≡ made_of (empty_of (plant (tables firsts.old lasts.old kinds.old values.old sent.old relto.old relkind.old relvalue.old received.old up.old) jobs.old)) }
 {
-    let mut columns = Lent { firsts, lasts, kinds, values, sent, relto, relkind, relvalue, received, up };
+    let mut columns = Lent {
+        firsts,
+        lasts,
+        kinds,
+        values,
+        sent,
+        relto,
+        relkind,
+        relvalue,
+        received,
+        up,
+    };
     said(plant::empty(jobs, &mut columns))
 }
 
@@ -55,7 +66,18 @@ pub extern "C" fn druvisha_step(
     ensures { left result (plant (tables firsts.new lasts.new kinds.new values.new sent.new relto.new relkind.new relvalue.new received.new up.new) jobs.new) out.new
         ≡ left_of (step_of (plant (tables firsts.old lasts.old kinds.old values.old sent.old relto.old relkind.old relvalue.old received.old up.old) jobs.old) out.old event) }
 {
-    let mut columns = Lent { firsts, lasts, kinds, values, sent, relto, relkind, relvalue, received, up };
+    let mut columns = Lent {
+        firsts,
+        lasts,
+        kinds,
+        values,
+        sent,
+        relto,
+        relkind,
+        relvalue,
+        received,
+        up,
+    };
     said(plant::step(jobs, &mut columns, out, event))
 }
 
@@ -77,6 +99,17 @@ pub extern "C" fn druvisha_holders(
 ) -> HoldersSaid
     ensures { result ≡ holders_said_of (holders_of (plant (tables firsts.now lasts.now kinds.now values.now sent.now relto.now relkind.now relvalue.now received.now up.now) jobs.now) series) }
 {
-    let columns = Seen { firsts, lasts, kinds, values, sent, relto, relkind, relvalue, received, up };
+    let columns = Seen {
+        firsts,
+        lasts,
+        kinds,
+        values,
+        sent,
+        relto,
+        relkind,
+        relvalue,
+        received,
+        up,
+    };
     holders_said(plant::holders(jobs, &columns, series))
 }

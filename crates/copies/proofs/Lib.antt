@@ -1,6 +1,7 @@
 -- what the calls' proofs share
 pub mod Guards
 pub mod Filled
+pub mod SameColumns
 pub mod Reading
 -- what the walk's proofs share
 pub mod Stations

@@ -11,8 +11,8 @@ use Rattle.desk.specs.Once.{Left, Given, EachOnce}
 abbrev left_of : Call → Left
 left_of c =
     record {
-      fed = record { used = c.used; written = c.written; number = c.desk.number; jobs = c.desk.plant.jobs };
-      copies = c.desk.plant.copies;
+      fed = record { used = c.used; written = c.written; number = c.desk.number };
+      plant = c.desk.plant;
       out = c.desk.out;
       bytes = c.bytes;
     }
@@ -29,7 +29,7 @@ given_once back bytes x y p q =
 
 pub each_once : EachOnce
 each_once = (
-  λ d t bytes. one_result (λ (x : Left). given x.fed x.copies x.out x.bytes) left_of (λ x. refl) (called d t bytes),
+  λ d t bytes. one_result (λ (x : Left). given x.fed x.plant x.out x.bytes) left_of (λ x. refl) (called d t bytes),
   λ bytes from end. given_once _ _,
   λ says leaves. given_once says leaves,
 )

@@ -13,7 +13,6 @@ use borrow.Author.Tests.{eq-eqb, ne_eqb}
 use Rattle.words.specs.declared.Refusal.TheVariants.{BadEvent}
 use Rattle.words.specs.Answers.{value_of}
 use Rattle.copies.specs.Tables.{Copies}
-use Rattle.jobs.specs.declared.Job.{Job}
 use Rattle.jobs.specs.Calls.{Stepped}
 use Rattle.digits.specs.Printing.{wrote_at, written_at}
 use Rattle.digits.proofs.Laws.{room_found}
@@ -53,16 +52,16 @@ heard_step_lem e o n h = rw (h, take_if (eqb e.kind COMMIT) (3 * value_of o.answ
 pub judged_good : (line : List ℕ) (r : Option Event) (e : Event) (p : Plant) (out : List ℕ) (s : Stepped) (t : Copies) (row : List ℕ) (n : ℕ)
     → r ≡ event_line line → r ≡ Some e → left s t row ≡ step_of p out e
     → n ≡ cond (eqb e.kind COMMIT) (3 * value_of s.answer) 0
-    → judged (record { answer = s.answer; shown = n; jobs = s.jobs }) t row ≡ heard p out line
+    → judged (record { answer = s.answer; shown = n }) (plant t s.jobs) row ≡ heard p out line
 unfolding heard
 judged_good line r e p out s t row n f g h k = rw (sym f ∙ g) (heard_step_lem e (left s t row) n k ∙ ap (heard_step e) h)
 
 -- the line said none
-pub judged_bad : (line : List ℕ) (r : Option Event) (t : Copies) (jobs : List Job) (out : List ℕ)
+pub judged_bad : (line : List ℕ) (r : Option Event) (p : Plant) (out : List ℕ)
     → r ≡ event_line line → r ≡ None
-    → judged (record { answer = Err BadEvent; shown = 0; jobs = jobs }) t out ≡ heard (plant t jobs) out line
+    → judged (record { answer = Err BadEvent; shown = 0 }) p out ≡ heard p out line
 unfolding heard
-judged_bad line r t jobs out f g = rw (sym f ∙ g)
+judged_bad line r p out f g = rw (sym f ∙ g)
 
 -- ---- the answering of a line
 -- where there is room for any answer, an answer line is written
@@ -82,16 +81,16 @@ unfolding put says after
 put_is n p out line bytes at h next last e f g = rw (f, g, e)
 
 -- so the answer to a line stands there
-pub answered_to : (n : ℕ) (p : Plant) (out line bytes : List ℕ) (at : ℕ) (r : Judged) (t : Copies) (row last : List ℕ) (w : Option ℕ) (next shown : ℕ)
+pub answered_to : (n : ℕ) (p : Plant) (out line bytes : List ℕ) (at : ℕ) (r : Judged) (q : Plant) (row last : List ℕ) (w : Option ℕ) (next shown : ℕ)
     → at + answer_room ≤ length bytes
-    → judged r t row ≡ heard p out line
+    → judged r q row ≡ heard p out line
     → shown ≡ min r.shown (length row)
     → w ≡ wrote_at answer_room (length bytes) at (answer_text n (reply r.answer (take shown row)))
     → last ≡ written_at answer_room bytes at (answer_text n (reply r.answer (take shown row)))
     → w ≡ Some next
-    → answered (record { at = next; jobs = r.jobs }) n t row last ≡ put (desk n p out) line bytes at
-answered_to n p out line bytes at r t row last w next shown room e m f g k =
+    → answered next n q row last ≡ put (desk n p out) line bytes at
+answered_to n p out line bytes at r q row last w next shown room e m f g k =
     let text : List ℕ = answer_text n (reply r.answer (take r.shown row)) in
     let same : take shown row ≡ take r.shown row = rw m (take_min r.shown row) in
     let to : Some next ≡ Some (at + length text) = sym k ∙ wrote_to bytes at text room w (rw same at f) in
-    put_is n p out line bytes at (judged r t row) next last e (same_Some _ _ to) (wrote_bytes bytes at text room last (rw same at g))
+    put_is n p out line bytes at (judged r q row) next last e (same_Some _ _ to) (wrote_bytes bytes at text room last (rw same at g))

@@ -33,12 +33,7 @@ fn shown(kind: u32, answer: Answer) -> usize
 }
 
 // The event that a line says steps; a line that says none is a BAD EVENT.
-fn judge(
-    line: &[u8],
-    jobs: &mut [Job; JOBS],
-    columns: &mut Lent<'_>,
-    row: &mut [Serial],
-) -> Judged
+fn judge(line: &[u8], jobs: &mut [Job; JOBS], columns: &mut Lent<'_>, row: &mut [Serial]) -> Judged
     ensures same { SameColumns columns.old columns.new }
     ensures leaves { judged result (plant (lent columns.new) jobs.new) row.new ≡ heard (plant (lent columns.old) jobs.old) row.old line.now }
 {

@@ -1,14 +1,15 @@
 // The events of a list step one after another in lent tables, and the accepted ones are counted.
-ghost use Rattle.std.specs.Prelude.{◌≡◌, ◌<◌};
+ghost use Rattle.std.specs.Prelude.{◌≡◌, ◌<◌, ◌≤◌};
+ghost use Rattle.words.specs.Tests.{one_if};
 ghost use Rattle.copies.specs.Columns.{lent};
 ghost use Rattle.rulebook.specs.Tables.{plant};
-ghost use Rattle.gauge.specs.Accepted.{event_at, event_count, accepted_from};
+ghost use Rattle.gauge.specs.Accepted.{event_at, event_count, is_accepted, accepted_from};
 
 use copies::Lent;
 use events::step_unchecked;
 use jobs::Job;
 use rulebook::Event;
-use words::{JOBS, Serial};
+use words::{Answer, JOBS, Serial, code};
 
 // How many numbers make an event: its kind and its four fields.
 const EVENT_SIZE: usize = 5;
@@ -28,6 +29,13 @@ fn event_at(numbers: &[u32], i: usize) -> Event
     }
 }
 
+// What an answer adds to the count.
+fn counts_for(answer: Answer) -> usize
+    ensures { (result ≡ one_if (is_accepted answer)) × (result ≤ 1) }
+{
+    if code(answer) == 0 { 1 } else { 0 }
+}
+
 // How many of the events are accepted, from the lent tables on.
 pub fn count_accepted(
     numbers: &[u32],
@@ -39,9 +47,8 @@ pub fn count_accepted(
 {
     let mut count = 0;
     for i in 0..numbers.len() / EVENT_SIZE {
-        if step_unchecked(jobs, columns, out, event_at(numbers, i)).is_ok() {
-            count += 1;
-        }
+        let event = event_at(numbers, i);
+        count += counts_for(step_unchecked(jobs, columns, out, event));
     }
     count
 }

@@ -2,20 +2,20 @@
 use Prim.Native.Nat.{ℕ, ◌≤◌}
 use mathlib.Core.Path.{◌≡◌, sym, ap, ◌∙◌}
 use mathlib.Core.Bool.{Bool, true, false, not}
-use mathlib.Core.List.{List, []}
+use mathlib.Core.List.{List}
 use lib.Dec.{eqb, leb}
 use lib.ListN.{length}
 use borrow.Author.Tests.{leb-false, le-ltb}
-use Rattle.words.specs.declared.Refusal.TheVariants.{Short as SHORT, NotWhole, BadEvent, None}
+use Rattle.words.specs.Answers.{refusal_of}
+use Rattle.words.specs.declared.Refusal.TheVariants.{BadEvent, None}
 use Rattle.std.specs.Prelude.{Result, Ok, Err}
-use Rattle.words.specs.declared.Rule.{Rule}
 use Rattle.words.specs.declared.Flaw.{Flaw}
-use Rattle.words.specs.declared.Flaw.TheVariants.{Short, Broken}
+use Rattle.words.specs.declared.Flaw.TheVariants.{Short as TooShort, Broken}
 use Rattle.words.specs.Numbers.{station_count, series_count, place_count}
 use Rattle.words.specs.Tests.{non, ◌or◌}
 use Rattle.words.proofs.Guards.{non_call_true, non_call_false}
 use Rattle.words.proofs.Laws.{neither}
-use Rattle.copies.specs.Tables.{Copies, Series, tables, series_in, held}
+use Rattle.copies.specs.Tables.{Copies, Series, series_at, held}
 use Rattle.copies.specs.Steps.{holder_set}
 use Rattle.copies.specs.Calls.{read, holders}
 use Rattle.copies.proofs.Long.{long}
@@ -40,28 +40,24 @@ unfolding holders_there
 there_bad r s h l e = rw l e
 
 -- what `is_open` says of a series
-abbrev said_open : List ℕ → ℕ → Bool
-said_open firsts s = non (eqb (read series_count firsts (leb series_count s) s) 0)
+abbrev said_open : Copies → ℕ → Bool
+said_open t s = non (eqb (read series_count t.firsts (leb series_count s) s) 0)
 
-module _ (firsts kinds : List ℕ) (s : ℕ) (h : Holders) (o : Bool) (l : series_count ≤ length firsts) (small : leb series_count s ≡ false) (said : o ≡ said_open firsts s) where
-  -- the series, from the columns that are asked
-  abbrev there : Series
-  there = series_in firsts [] kinds [] [] [] [] [] [] s
-
+module _ (t : Copies) (s : ℕ) (h : Holders) (o : Bool) (l : series_count ≤ length t.firsts) (small : leb series_count s ≡ false) (said : o ≡ said_open t s) where
   -- refusal 5
-  pub there_closed : not o ≡ true → h ≡ no_holders (Err None) → h ≡ holders_there there s
+  pub there_closed : not o ≡ true → h ≡ no_holders (Err None) → h ≡ holders_there (series_at t s) s
   unfolding holders_there
   there_closed flag e =
-      let shut = non_call_true o _ (read_open (tables firsts [] kinds [] [] [] [] [] [] []) s o l (leb-false _ _ small) said) flag in
+      let shut = non_call_true o _ (read_open t s o l (leb-false _ _ small) said) flag in
       rw (small, shut) e
 
   -- the set, its ones and its trailing zeros
-  pub there_held : (set : ℕ) → place_count ≤ length kinds → not o ≡ false → set ≡ holders kinds s → h ≡ by_set set → h ≡ holders_there there s
+  pub there_held : (set : ℕ) → place_count ≤ length t.kinds → not o ≡ false → set ≡ holders t.kinds s → h ≡ by_set set → h ≡ holders_there (series_at t s) s
   unfolding holders_there holders ◌or◌
   there_held set k flag e q =
-      let opened = non_call_false o _ (read_open (tables firsts [] kinds [] [] [] [] [] [] []) s o l (leb-false _ _ small) said) flag in
-      let all : set ≡ holder_set there = rw (le-ltb _ _ k, small) at e in
-      rw (small, opened) (q ∙ set_right there set all)
+      let opened = non_call_false o _ (read_open t s o l (leb-false _ _ small) said) flag in
+      let all : set ≡ holder_set (series_at t s) = rw (le-ltb _ _ k, small) at e in
+      rw (small, opened) (q ∙ set_right (series_at t s) set all)
 
 -- ---- all tables
 module _ (t : Copies) (bs : List Job) (found : Result (Unit {0}) Flaw) (e : found ≡ check (plant t bs)) where
@@ -71,18 +67,14 @@ module _ (t : Copies) (bs : List Job) (found : Result (Unit {0}) Flaw) (e : foun
   whole_long w = let l = long (neither _ _ (check_whole (plant t bs) (sym e ∙ w)).0).0 in (l.firsts, l.kinds)
 
   module _ (s : ℕ) (h : Holders) where
-    -- refusal 1
-    pub holders_short : (flaw : Flaw) → found ≡ Err flaw → flaw ≡ Short → h ≡ no_holders (Err SHORT) → h ≡ holders_of (plant t bs) s
-    unfolding holders_of
-    holders_short flaw w f q = rw (check_short (plant t bs) (sym e ∙ w ∙ ap Err f)) q
-
-    -- refusal 2
-    pub holders_broken : (flaw : Flaw) (rule : Rule) → found ≡ Err flaw → flaw ≡ Broken rule → h ≡ no_holders (Err NotWhole) → h ≡ holders_of (plant t bs) s
+    -- the check finds something wrong: refusal 1 or 2
+    pub holders_wrong : (flaw : Flaw) → found ≡ Err flaw → h ≡ no_holders (Err (refusal_of flaw)) → h ≡ holders_of (plant t bs) s
     unfolding holders_of non
-    holders_broken flaw rule w f q =
-        let broken = check_broken (plant t bs) rule (sym e ∙ w ∙ ap Err f) in rw (broken.0, broken.1) q
+    holders_wrong TooShort w q = rw (check_short (plant t bs) (sym e ∙ w)) q
+    holders_wrong (Broken rule) w q =
+        let broken = check_broken (plant t bs) rule (sym e ∙ w) in rw (broken.0, broken.1) q
 
     -- neither
-    pub holders_whole : found ≡ Ok tt → h ≡ holders_there (series_in t.firsts [] t.kinds [] [] [] [] [] [] s) s → h ≡ holders_of (plant t bs) s
+    pub holders_whole : found ≡ Ok tt → h ≡ holders_there (series_at t s) s → h ≡ holders_of (plant t bs) s
     unfolding holders_of holders_there non
     holders_whole w q = let fine = check_whole (plant t bs) (sym e ∙ w) in rw (fine.0, fine.1) q

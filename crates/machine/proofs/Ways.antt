@@ -5,11 +5,11 @@ use mathlib.Core.Bool.{false}
 use mathlib.Core.List.{List}
 use lib.ListN.{length}
 use borrow.Author.Tests.{lt-ltb, le-ltb}
-use Rattle.words.specs.declared.Refusal.TheVariants.{Short, NotWhole}
+use Rattle.words.specs.Answers.{refusal_of}
+use Rattle.words.specs.declared.Refusal.TheVariants.{Short}
 use Rattle.std.specs.Prelude.{Result, Ok, Err}
-use Rattle.words.specs.declared.Rule.{Rule}
 use Rattle.words.specs.declared.Flaw.{Flaw}
-use Rattle.words.specs.declared.Flaw.TheVariants.{Short as FlawShort, Broken}
+use Rattle.words.specs.declared.Flaw.TheVariants.{Short as TooShort, Broken}
 use Rattle.words.specs.Numbers.{out_count}
 use Rattle.words.specs.Tests.{non, ◌or◌}
 use Rattle.words.proofs.Laws.{or_true}
@@ -38,22 +38,18 @@ module _ (t : Copies) (bs : List Job) (out : List ℕ) (e : Event) where
   unfolding step_of effect judged SHORT shown
   way_room l = rw (lt-ltb _ _ l, or_true (short_tables lent))
 
-  -- a table is short
-  pub way_short : (found : Result (Unit {0}) Flaw) (flaw : Flaw) → found ≡ check lent → found ≡ Err flaw → flaw ≡ FlawShort → left (stepped (Err Short) bs) t out ≡ step_of lent out e
-  unfolding step_of effect judged SHORT shown ◌or◌
-  way_short found flaw p h f = rw (check_short lent (sym p ∙ h ∙ ap Err f))
-
   -- refusal 1 is not given
   long_enough : out_count ≤ length out → short_tables lent ≡ false → SHORT out lent e ≡ false
   unfolding SHORT ◌or◌
   long_enough l h = rw (h, le-ltb _ _ l)
 
-  -- NOT WHOLE
-  pub way_broken : (rule : Rule) (found : Result (Unit {0}) Flaw) (flaw : Flaw) → out_count ≤ length out → found ≡ check lent → found ≡ Err flaw → flaw ≡ Broken rule
-      → left (stepped (Err NotWhole) bs) t out ≡ step_of lent out e
-  unfolding step_of effect judged NOT_WHOLE non shown
-  way_broken rule found flaw l p h f =
-      let broken = check_broken lent rule (sym p ∙ h ∙ ap Err f) in
+  -- the check finds something wrong: a table is short, or a rule is broken
+  pub way_wrong : (found : Result (Unit {0}) Flaw) (flaw : Flaw) → out_count ≤ length out → found ≡ check lent → found ≡ Err flaw
+      → left (stepped (Err (refusal_of flaw)) bs) t out ≡ step_of lent out e
+  unfolding step_of effect judged SHORT NOT_WHOLE non shown ◌or◌
+  way_wrong found TooShort l p h = rw (check_short lent (sym p ∙ h))
+  way_wrong found (Broken rule) l p h =
+      let broken = check_broken lent rule (sym p ∙ h) in
       rw (long_enough l broken.0, broken.1)
 
   -- whole tables

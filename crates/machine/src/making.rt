@@ -1,14 +1,22 @@
 // An empty plant in lent tables.
-ghost use Rattle.std.specs.Prelude.{◌≡◌};
+ghost use Rattle.std.specs.Prelude.{◌≡◌, ◌≤◌, length};
 ghost use Rattle.copies.specs.Columns.{lent, SameColumns};
 ghost use Rattle.jobs.specs.Calls.{stepped};
 ghost use Rattle.rulebook.specs.Tables.{plant};
 ghost use Rattle.rulebook.specs.Around.{empty_of};
-ghost use Rattle.machine.specs.Calls.{made, cleared, clear_of};
+ghost use Rattle.machine.specs.Calls.{made, cleared, clear_of, filled};
 
 use copies::Lent;
 use jobs::Job;
 use words::{Answer, JOBS, PLACES, RECEIVED, Refusal, SERIES, STATIONS};
+
+// Writes a number at the first so many entries of a column.
+fn fill(column: &mut [u32], size: usize, number: u32)
+    requires { size ≤ length column.old }
+    ensures { column.new ≡ filled size number column.old }
+{
+    column[..size].fill(number);
+}
 
 // Makes the columns those of an empty plant: no series, all stations up. Where one is short none is touched, and the answer is no; extra
 // entries stay.
@@ -29,16 +37,16 @@ pub fn clear(columns: &mut Lent<'_>) -> bool
     {
         return false;
     }
-    columns.firsts[..SERIES].fill(0);
-    columns.lasts[..SERIES].fill(0);
-    columns.kinds[..PLACES].fill(0);
-    columns.values[..PLACES].fill(0);
-    columns.sent[..PLACES].fill(0);
-    columns.relto[..PLACES].fill(0);
-    columns.relkind[..PLACES].fill(0);
-    columns.relvalue[..PLACES].fill(0);
-    columns.received[..RECEIVED].fill(0);
-    columns.up[..STATIONS].fill(1);
+    fill(columns.firsts, SERIES, 0);
+    fill(columns.lasts, SERIES, 0);
+    fill(columns.kinds, PLACES, 0);
+    fill(columns.values, PLACES, 0);
+    fill(columns.sent, PLACES, 0);
+    fill(columns.relto, PLACES, 0);
+    fill(columns.relkind, PLACES, 0);
+    fill(columns.relvalue, PLACES, 0);
+    fill(columns.received, RECEIVED, 0);
+    fill(columns.up, STATIONS, 1);
     true
 }
 

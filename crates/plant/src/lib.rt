@@ -4,7 +4,6 @@
 
 mod holding;
 mod making;
-mod sixteen;
 mod slots;
 mod stepping;
 

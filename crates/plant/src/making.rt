@@ -15,9 +15,12 @@ pub fn empty(jobs: &mut [Job], columns: &mut Lent<'_>) -> Answer
     ensures same { SameColumns columns.old columns.new }
     ensures leaves { made result (plant (lent columns.new) jobs.new) ≡ empty_of (plant (lent columns.old) jobs.old) }
 {
-    if jobs.len() < JOBS || !machine::clear(columns) {
+    if jobs.len() < JOBS {
         return Err(Refusal::Short);
     }
-    close_slots(jobs);
-    Ok(0)
+    if machine::clear(columns) {
+        close_slots(jobs);
+        return Ok(0);
+    }
+    Err(Refusal::Short)
 }

@@ -5,9 +5,15 @@ ghost use Rattle.words.specs.Numbers.{job_count};
 ghost use Rattle.jobs.specs.Job.{no_job};
 ghost use Rattle.jobs.specs.Slots.{job_at};
 
-use crate::sixteen::{nth, unused};
 use jobs::Job;
 use words::JOBS;
+
+// Sixteen slots by value, all unused.
+fn unused() -> [Job; JOBS]
+    ensures { result ≡ replicate job_count no_job }
+{
+    [Job::begun(0).close(); JOBS]
+}
 
 // One slot is taken out.
 fn slot(jobs: &[Job], at: usize) -> Job
@@ -40,10 +46,8 @@ pub fn taken_out(jobs: &[Job]) -> [Job; JOBS]
     ensures { result ≡ take job_count jobs.now }
 {
     let mut all = unused();
-    let mut i: usize = 0;
-    while i < JOBS {
+    for i in 0..JOBS {
         all[i] = slot(jobs, i);
-        i += 1;
     }
     all
 }
@@ -53,10 +57,8 @@ pub fn put_back(jobs: &mut [Job], all: [Job; JOBS])
     requires { job_count ≤ length jobs.old }
     ensures { jobs.new ≡ all ++ drop job_count jobs.old }
 {
-    let mut i: usize = 0;
-    while i < JOBS {
-        put(jobs, i, nth(all, i));
-        i += 1;
+    for i in 0..JOBS {
+        put(jobs, i, all[i]);
     }
 }
 
@@ -65,9 +67,7 @@ pub fn close_slots(jobs: &mut [Job])
     requires { job_count ≤ length jobs.old }
     ensures { jobs.new ≡ sets jobs.old 0 (replicate job_count no_job) }
 {
-    let mut i: usize = 0;
-    while i < JOBS {
+    for i in 0..JOBS {
         close_slot(jobs, i);
-        i += 1;
     }
 }

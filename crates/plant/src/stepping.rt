@@ -12,12 +12,7 @@ use rulebook::Event;
 use words::{Answer, JOBS, Refusal, Serial};
 
 // THE STEP: an event, the tables, the output. SHORT, NOT WHOLE, and then the listed order.
-pub fn step(
-    jobs: &mut [Job],
-    columns: &mut Lent<'_>,
-    out: &mut [Serial],
-    event: Event,
-) -> Answer
+pub fn step(jobs: &mut [Job], columns: &mut Lent<'_>, out: &mut [Serial], event: Event) -> Answer
     ensures same { SameColumns columns.old columns.new }
     ensures leaves { left result (plant (lent columns.new) jobs.new) out.new ≡ step_of (plant (lent columns.old) jobs.old) out.old event }
 {

@@ -4,11 +4,11 @@ use Rattle.std.specs.Prelude.{is_some}
 use Rattle.desk.proofs.Ways.{wrote_to, answered_to}
 use Rattle.desk.proofs.feeding.answer.Goals as goal
 
-pub unwrap-next-requires : goal.unwrap-next-requires
-unwrap-next-requires c = ap is_some (wrote_to _ _ _ c.requires _ c.write_answer.ensures.value)
+pub unwrap-requires : goal.unwrap-requires
+unwrap-requires c = ap is_some (wrote_to _ _ _ c.requires _ c.write_answer.ensures.value)
 
-pub returns-clause-out_after : goal.returns-clause-out_after
-returns-clause-out_after c =
+pub returns-clause-leaves : goal.returns-clause-leaves
+returns-clause-leaves c =
     let wrote = c.write_answer.ensures in
-    answered_to _ _ _ _ _ _ c.judge-said.result _ _ _ _ _ _ c.requires c.judge-said.ensures c.min.ensures wrote.value wrote.out_after
-    c.unwrap-next.ensures
+    answered_to _ _ _ _ _ _ c.judge-said.result _ _ _ _ _ _ c.requires c.judge-said.ensures.leaves c.min.ensures wrote.value wrote.out_after
+    c.unwrap.ensures

@@ -1,24 +1,25 @@
 -- `feed` meets its contract: what was done and what is still to be done give together what the whole call gives. Assumes nothing.
 use mathlib.Core.Path.{sym, ◌∙◌}
 use native.Mathlib.Omega.{arith}
+use Rattle.copies.proofs.SameColumns.{same_first, same_then}
 use Rattle.desk.proofs.Walks.{whole_found}
 use Rattle.desk.proofs.Still.{still_first, still_none, still_answered}
 use Rattle.desk.proofs.feeding.feed.Goals as goal
 
 pub loop-line-init : goal.loop-line-init
-loop-line-init c = (still_first _ _ _, omega arith, omega arith)
+loop-line-init c = (still_first _ _ _, omega arith, omega arith, same_first c.args.columns.now)
 
-pub slice_bounds-answer-count : goal.slice_bounds-answer-count
-slice_bounds-answer-count c = (whole_found _ _ _ _ (sym c.whole_line.ensures ∙ c.in-Some.is)).forward
+pub slice_bounds-said-count : goal.slice_bounds-said-count
+slice_bounds-said-count c = (whole_found _ _ _ _ (sym c.whole_line.ensures ∙ c.in-Some.is)).forward
 
-pub slice_bounds-answer-start : goal.slice_bounds-answer-start
-slice_bounds-answer-start c = let w = whole_found _ _ _ _ (sym c.whole_line.ensures ∙ c.in-Some.is) in omega (arith, w.forward, w.inside)
+pub slice_bounds-said-start : goal.slice_bounds-said-start
+slice_bounds-said-start c = let w = whole_found _ _ _ _ (sym c.whole_line.ensures ∙ c.in-Some.is) in omega (arith, w.forward, w.inside)
 
-pub slice_bounds-answer-end : goal.slice_bounds-answer-end
-slice_bounds-answer-end c = let w = whole_found _ _ _ _ (sym c.whole_line.ensures ∙ c.in-Some.is) in omega (arith, w.inside)
+pub slice_bounds-said-end : goal.slice_bounds-said-end
+slice_bounds-said-end c = let w = whole_found _ _ _ _ (sym c.whole_line.ensures ∙ c.in-Some.is) in omega (arith, w.inside)
 
-pub answer-said-requires : goal.answer-said-requires
-answer-said-requires c = let w = whole_found _ _ _ _ (sym c.whole_line.ensures ∙ c.in-Some.is) in omega (arith, w.fits)
+pub answer-at-requires : goal.answer-at-requires
+answer-at-requires c = let w = whole_found _ _ _ _ (sym c.whole_line.ensures ∙ c.in-Some.is) in omega (arith, w.fits)
 
 pub overflow_add-count : goal.overflow_add-count
 overflow_add-count c = let w = whole_found _ _ _ _ (sym c.whole_line.ensures ∙ c.in-Some.is) in omega (arith, w.numbered)
@@ -32,10 +33,14 @@ loop-line-preserved c =
     let l = c.loop-line in
     let found = rw l.auto.out at (sym c.whole_line.ensures ∙ c.in-Some.is) in
     let w = whole_found _ _ _ _ found in
-    let e = c.answer-said.ensures in
-    (still_answered _ _ _ _ _ _ l.invariant.0 _ found e.out_after, omega (arith, w.inside, w.goes), omega (arith, e.at_bound, w.fits, l.invariant.2))
+    let e = c.answer-at.ensures in (
+      still_answered _ _ _ _ _ _ l.invariant.0 _ found e.leaves,
+      omega (arith, w.inside, w.goes),
+      omega (arith, e.at_bound, w.fits, l.invariant.2),
+      same_then c.args.columns.now l.columns c.answer-at.new.columns l.invariant.3 e.same,
+    )
 
-pub returns-clause-out_after : goal.returns-clause-out_after
-returns-clause-out_after c =
+pub returns-clause-leaves : goal.returns-clause-leaves
+returns-clause-leaves c =
     let l = c.loop-line in
     still_none _ _ _ _ _ _ l.invariant.0 (rw l.auto.out at (sym c.whole_line.ensures ∙ c.in_default.is))

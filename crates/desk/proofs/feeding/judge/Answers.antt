@@ -2,9 +2,8 @@
 use Rattle.desk.proofs.Ways.{judged_good, judged_bad}
 use Rattle.desk.proofs.feeding.judge.Goals as goal
 
-pub returns : goal.returns
-returns c =
-    judged_good _ _ _ _ _ _ _ _ _ c.event_line.ensures c.in-Some.is c.step-stepped.ensures c.shown.ensures
+pub returns-clause-leaves : goal.returns-clause-leaves
+returns-clause-leaves c = judged_good _ _ _ _ _ _ _ _ _ c.event_line.ensures c.in-Some.is c.step-answer.ensures.leaves c.shown.ensures
 
-pub returns-in_default : goal.returns-in_default
-returns-in_default c = search judged_bad
+pub returns-in_default-clause-leaves : goal.returns-in_default-clause-leaves
+returns-in_default-clause-leaves c = judged_bad _ _ _ _ c.event_line.ensures c.in_default.is

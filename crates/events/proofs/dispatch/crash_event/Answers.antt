@@ -5,10 +5,10 @@ use borrow.Author.Tests.{not-true, not-false}
 use Rattle.events.proofs.Ways.{step_crash, crash_bad}
 use Rattle.events.proofs.dispatch.crash_event.Goals as goal
 
-pub returns-then-not-is_bad : goal.returns-then-not-is_bad
-returns-then-not-is_bad c fs ls ks vs ns rt rk rv gs out crash =
+pub returns-then-not-is_bad-clause-leaves : goal.returns-then-not-is_bad-clause-leaves
+returns-then-not-is_bad-clause-leaves c out crash =
     step_crash _ _ _ _ _ _ _ (c.is_bad.ensures _) (not-true _ (ap not c.if-not-is_bad.true)) crash
-    (c.crash.ensures _ _ _ _ _ _ _ _ _ _)
+    (c.crash.ensures.leaves _)
 
-pub returns : goal.returns
-returns c fs ls ks vs ns rt rk rv gs out crash = crash_bad _ _ _ _ _ (c.is_bad.ensures _) (not-false _ (ap not c.if-not-is_bad.false))
+pub returns-clause-leaves : goal.returns-clause-leaves
+returns-clause-leaves c out crash = crash_bad _ _ _ _ _ (c.is_bad.ensures _) (not-false _ (ap not c.if-not-is_bad.false))

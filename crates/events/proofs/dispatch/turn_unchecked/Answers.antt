@@ -2,15 +2,15 @@
 use Rattle.events.proofs.Ways.{way_bad, way_job, way_copy}
 use Rattle.events.proofs.dispatch.turn_unchecked.Goals as goal
 
-pub returns-then-is_bad : goal.returns-then-is_bad
-returns-then-is_bad c bs same = way_bad _ bs _ _ _ _ same _ (c.is_bad.ensures _) c.if-is_bad.true
+pub returns-then-is_bad-clause-leaves : goal.returns-then-is_bad-clause-leaves
+returns-then-is_bad-clause-leaves c bs same = way_bad _ bs _ _ _ _ same _ (c.is_bad.ensures _) c.if-is_bad.true
 
-pub returns-then-takes_job-event : goal.returns-then-takes_job-event
-returns-then-takes_job-event c bs same =
+pub returns-then-takes_job-event-clause-leaves : goal.returns-then-takes_job-event-clause-leaves
+returns-then-takes_job-event-clause-leaves c bs same =
     way_job _ bs _ _ _ _ same _ (c.is_bad.ensures _) c.if-is_bad.false _ c.takes_job.ensures _ _ _ c.if-takes_job-event.true
-    (λ here. c.job_event.ensures _ _ _ _ _ bs here)
+    (λ here. c.job_event.ensures.leaves bs here)
 
-pub returns : goal.returns
-returns c bs same =
+pub returns-clause-leaves : goal.returns-clause-leaves
+returns-clause-leaves c bs same =
     way_copy _ bs _ _ _ _ same _ (c.is_bad.ensures _) c.if-is_bad.false _ c.takes_job.ensures _ _ c.if-takes_job-event.false
-    c.copy_event-answer.ensures
+    c.copy_event.ensures.leaves

@@ -8,6 +8,6 @@ pub returns-then-code-eq0 : goal.returns-then-code-eq0
 unfolding one_if
 returns-then-code-eq0 c = (rw (← c.code.ensures, eq-eqb _ _ c.if-code-eq0.true), omega arith)
 
-pub returns : goal.returns
+pub returns-else-code-eq0 : goal.returns-else-code-eq0
 unfolding one_if
-returns c = (rw (← c.code.ensures, ne_eqb _ _ c.if-code-eq0.false), omega arith)
+returns-else-code-eq0 c = (rw (← c.code.ensures, ne_eqb _ _ c.if-code-eq0.false), omega arith)

@@ -1,4 +1,5 @@
 -- `holders_in` meets its contract: a law for each way out. Assumes nothing.
+use Rattle.copies.specs.Columns.{seen}
 use Rattle.machine.proofs.Held.{there_bad, there_closed, there_held}
 use Rattle.machine.proofs.holding.holders_in.Goals as goal
 
@@ -6,7 +7,7 @@ pub returns-then-missing : goal.returns-then-missing
 returns-then-missing c = search there_bad
 
 pub returns-then-not-opened : goal.returns-then-not-opened
-returns-then-not-opened c = search there_closed
+returns-then-not-opened c = let t = seen c.args.columns.now in search (there_closed t)
 
 pub returns : goal.returns
-returns c = search there_held
+returns c = let t = seen c.args.columns.now in search (there_held t)

@@ -4,13 +4,13 @@ use Rattle.copies.specs.Tables.{short_copies}
 use Rattle.machine.proofs.Emptied.{clear_short, clear_done}
 use Rattle.machine.proofs.making.clear.Goals as goal
 
-pub returns-then-firsts-lasts : goal.returns-then-firsts-lasts
+pub returns-then-columns-clause-leaves : goal.returns-then-columns-clause-leaves
 unfolding short_copies ◌or◌
-returns-then-firsts-lasts c = search clear_short
+returns-then-columns-clause-leaves c = search clear_short
 
-pub returns : goal.returns
+pub returns-clause-leaves : goal.returns-clause-leaves
 unfolding short_copies ◌or◌
-returns c =
-    clear_done _ c.if-firsts-lasts.false
+returns-clause-leaves c =
+    clear_done _ c.if-columns.false
     c.fill.ensures c.fill-2.ensures c.fill-3.ensures c.fill-4.ensures c.fill-5.ensures
     c.fill-6.ensures c.fill-7.ensures c.fill-8.ensures c.fill-9.ensures c.fill-10.ensures

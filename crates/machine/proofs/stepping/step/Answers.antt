@@ -1,16 +1,17 @@
 -- `step` meets its contract: a law for each way out. Assumes nothing.
-use Rattle.machine.proofs.Ways.{way_room, way_short, way_broken, way_whole}
+use Rattle.std.proofs.lemmas.Result.{err_from_is_err_and}
+use Rattle.machine.proofs.Ways.{way_room, way_wrong, way_whole}
 use Rattle.machine.proofs.stepping.step.Goals as goal
 
-pub returns-then-out-lt-OUTPUT : goal.returns-then-out-lt-OUTPUT
-returns-then-out-lt-OUTPUT c = search way_room
+pub returns-then-out-lt-OUTPUT-clause-leaves : goal.returns-then-out-lt-OUTPUT-clause-leaves
+returns-then-out-lt-OUTPUT-clause-leaves c = way_room _ _ _ _ c.if-out-lt-OUTPUT.true
 
-pub returns-in-Err-Short : goal.returns-in-Err-Short
-returns-in-Err-Short c = way_short _ _ _ _ _ _ c.check.ensures c.in-Err-Short.is c.in-Err-Short.field-0-is
+pub returns-in_err-check-clause-leaves : goal.returns-in_err-check-clause-leaves
+returns-in_err-check-clause-leaves c =
+    let is = err_from_is_err_and c.from_residual.result c.from_residual.ensures.1 in
+    rw (is.1, is.2) (way_wrong _ _ _ _ _ _ c.if-out-lt-OUTPUT.false (rw c.seen.ensures at c.check.ensures) c.in_err-check.was)
 
-pub returns-in-Err-Broken : goal.returns-in-Err-Broken
-returns-in-Err-Broken c = way_broken _ _ _ _ _ _ _ c.if-out-lt-OUTPUT.false c.check.ensures c.in-Err-Broken.is c.in-Err-Broken.field-0-is
-
-pub returns-in-Ok : goal.returns-in-Ok
-returns-in-Ok c =
-    way_whole _ _ _ _ _ _ _ _ c.if-out-lt-OUTPUT.false c.check.ensures c.in-Ok.is c.step_unchecked.ensures
+pub returns-clause-leaves : goal.returns-clause-leaves
+returns-clause-leaves c =
+    way_whole _ _ _ _ _ _ _ _ c.if-out-lt-OUTPUT.false (rw c.seen.ensures at c.check.ensures) c.in_ok-check.was
+    c.step_unchecked.ensures.leaves

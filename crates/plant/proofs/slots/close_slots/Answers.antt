@@ -13,4 +13,4 @@ loop-i-preserved c =
     let unused = replicate job_count no_job in
     let i = c.loop-i.i in
     let closed = ap (set (moved unused c.args.jobs.now i) i) (sym (get_or-replicate job_count i no_job no_job c.loop-i-test.true)) in
-    (omega arith, rw (c.close_slot.ensures, c.loop-i.invariant.1, add-one) (closed ∙ moved_next no_job unused c.args.jobs.now i c.loop-i-test.true))
+    rw (c.close_slot.ensures, c.loop-i.invariant, add-one) (closed ∙ moved_next no_job unused c.args.jobs.now i c.loop-i-test.true)

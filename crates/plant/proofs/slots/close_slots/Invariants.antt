@@ -1,5 +1,4 @@
 -- `plant::slots::close_slots` meets its contract: each turn closes one slot more. Assumes nothing.
-use Prim.Native.Nat.{◌≤◌, ◌-◌}
 use mathlib.Core.Path.{◌≡◌}
 use lib.ListN.{replicate}
 use Rattle.words.specs.Numbers.{job_count}
@@ -8,7 +7,4 @@ use Rattle.plant.proofs.Moved.{moved}
 use Rattle.plant.proofs.slots.close_slots.Given as goal
 
 abbrev pub invariant-loop-i : goal.invariant-loop-i
-invariant-loop-i l = (l.i ≤ job_count) × (l.jobs ≡ moved (replicate job_count no_job) l.initial.jobs l.i)
-
-abbrev pub decreases-loop-i : goal.decreases-loop-i
-decreases-loop-i l = job_count - l.i
+invariant-loop-i l = l.jobs ≡ moved (replicate job_count no_job) l.initial.jobs l.i

@@ -16,12 +16,12 @@ pub loop-i-preserved : goal.loop-i-preserved
 loop-i-preserved c =
     let sixteen : length c.args.all ≡ job_count = search rules in
     let next = moved_next no_slot c.args.all c.args.jobs.now c.loop-i.i (omega arith) in
-    (omega arith, rw (c.put.ensures, c.nth.ensures, c.loop-i.invariant.1, add-one) next)
+    rw (c.put.ensures, c.loop-i.invariant, add-one) next
 
 pub returns : goal.returns
 returns c =
     let sixteen : length c.args.all ≡ job_count = search rules in
-    let done : c.loop-i.i ≡ job_count = omega (arith, c.loop-i.invariant.0, c.loop-i-test.false) in
-    c.loop-i.invariant.1 ∙ ap (moved c.args.all c.args.jobs.now) done
+    let done : c.loop-i.i ≡ job_count = omega (arith, c.loop-i-test.false) in
+    c.loop-i.invariant ∙ ap (moved c.args.all c.args.jobs.now) done
     ∙ moved_all c.args.all c.args.jobs.now job_count (omega arith) c.requires
     ∙ ap (λ (l : List Job). l ++ drop job_count c.args.jobs.now) (take_all job_count c.args.all (omega arith))
