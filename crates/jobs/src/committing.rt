@@ -67,7 +67,7 @@ fn store_one(
     out[3 * count] = lock.series;
     out[3 * count + 1] = first;
     out[3 * count + 2] = drawn;
-    // Never refused here: `fits` has tested that the count can be added.
+    // Never refused: `fits` has tested that the count can be added.
     let _ = raise(columns, lock.series, station, drawn);
     1
 }
