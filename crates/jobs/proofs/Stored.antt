@@ -1,7 +1,6 @@
 -- COMMIT: where all that a job has drawn fits, storing its lock places one by one comes to its draws committed and shown.
 -- Assumes nothing.
-use Rattle.std.specs.Prelude.{Ok}
-use Prim.Native.Nat.{ℕ, zero, suc, ◌+◌, ◌*◌, ◌≤◌, ◌<◌}
+use Prim.Native.Nat.{ℕ, zero, suc, ◌+◌, ◌*◌, ◌<◌}
 use native.Mathlib.Nat.{zero-add, add-zero}
 use native.Mathlib.Numerals.{add-one, add-two}
 use native.Mathlib.Decide.{ℕ_discrete}
@@ -13,21 +12,19 @@ use mathlib.Core.List.{List, [], ◌∷◌}
 use lib.ListN.{get_or, set, length, length-set}
 use lib.Seq.{sets, get_or-set_other}
 use borrow.Author.Tests.{eq-eqb, ne_eqb, le-ltb}
-use Rattle.words.specs.Answers.{Answer}
 use Rattle.words.specs.Numbers.{lock_count}
 use Rattle.words.specs.Tests.{non, ◌and◌, ◌or◌, refuse_if}
 use Rattle.words.proofs.Laws.{all_true}
 use Rattle.copies.specs.Tables.{Copies, series_at, place, value}
 use Rattle.copies.specs.Steps.{raised}
-use Rattle.copies.specs.Calls.{outcome as answered, raise_in, raise}
+use Rattle.copies.specs.Calls.{raise_in, raise}
 use Rattle.copies.proofs.Reading.{copy_good}
 use Rattle.jobs.specs.declared.Lock.{Lock}
 use Rattle.jobs.specs.declared.Job.{Job}
-use Rattle.jobs.specs.Job.{no_lock, no_job, lock_at, is_used}
+use Rattle.jobs.specs.Job.{no_lock, lock_at, is_used}
 use Rattle.jobs.specs.Whole.{W4_differs}
 use Rattle.jobs.specs.Draws.{Draw, entry_there, draws_on, draws_of, committed, shown, fits}
 use Rattle.jobs.specs.Store.{Store, store, store_one, store_first}
-use Rattle.jobs.specs.Calls.{stepped, turn, turned, outcome, commits}
 use Rattle.jobs.proofs.OneSlot.{turns}
 use Rattle.jobs.proofs.Fitting.{Addable, value_there, Drawable, reflects_draw}
 

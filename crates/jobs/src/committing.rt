@@ -33,7 +33,7 @@ fn draw_fits(job: Job, columns: &Seen<'_>, i: usize) -> bool
     within & lock.is_used() & differs(job, i)
 }
 
-// Whether all that the job has drawn can be added.
+// Whether all that the job has drawn can be added: place by place by its number, since each is compared with those before it.
 #[tactic(auto, using(words::proofs::Laws::all_none, words::proofs::Laws::all_next, words::proofs::Laws::all_end), unfolding(crate::specs::Draws::fits))]
 fn fits(job: Job, columns: &Seen<'_>) -> bool
     ensures { result ≡ fits columns.now.lasts.now columns.now.values.now job }
@@ -67,6 +67,7 @@ fn store_one(
     out[3 * count] = lock.series;
     out[3 * count + 1] = first;
     out[3 * count + 2] = drawn;
+    // Never refused: `fits` has tested that the count can be added.
     let _ = raise(columns, lock.series, station, drawn);
     1
 }
