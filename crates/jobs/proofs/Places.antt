@@ -1,18 +1,22 @@
 -- Laws about a job's lock places. Assumes nothing.
 use Prim.Native.Nat.{ℕ, ◌≤◌}
 use native.Mathlib.Omega.{arith}
-use mathlib.Core.Path.{◌≡◌, sym, ◌∙◌}
-use mathlib.Core.Bool.{true, false}
-use mathlib.Core.List.{List, map}
-use lib.Dec.{eqb}
-use lib.ListN.{length, length-map, get_or-eq_default}
+use mathlib.Core.Path.{◌≡◌, refl, sym, ap, ◌∙◌}
+use mathlib.Core.Bool.{Bool, true, false, cond}
+use mathlib.Core.List.{List, map, ◌∷◌}
+use lib.Dec.{eqb, ltb}
+use lib.ListN.{get_or, length, length-map, get_or-eq_default}
 use lib.Seq.{set_out}
 use borrow.Author.Tests.{eq-eqb, ne_eqb}
 use Rattle.words.specs.Numbers.{lock_count}
-use Rattle.words.specs.Tests.{non}
+use Rattle.std.specs.Prelude.{Option}
+use Rattle.std.specs.List.{position, position_or_len}
+use Rattle.std.proofs.lemmas.List.Recursion.{is_position_or_len}
+use Rattle.words.specs.Tests.{non, least_below}
+use Rattle.words.proofs.Laws.{least_front, some_least, some_non}
 use Rattle.jobs.specs.declared.Lock.{Lock}
 use Rattle.jobs.specs.declared.Job.{Job}
-use Rattle.jobs.specs.Job.{no_lock, lock_at, put_lock}
+use Rattle.jobs.specs.Job.{no_lock, lock_at, locks_series, lock_place, is_full, new_place, place_found, put_lock}
 
 -- a place of mode 0 is unused
 pub unused_place : (mode : ℕ) → mode ≡ 0 → non (non (eqb mode 0)) ≡ true
@@ -35,3 +39,29 @@ put_out b i l e h = let past : length b.locks ≤ i = omega arith in rw (set_out
 -- and an unused lock is read there
 pub read_out : (b : Job) (i : ℕ) → length b.locks ≡ lock_count → lock_count ≤ i → no_lock ≡ lock_at b i
 read_out b i e h = let past : length b.locks ≤ i = omega arith in sym (get_or-eq_default b.locks no_lock past)
+
+-- ---- a place that is looked for
+module _ (p : Lock → Bool) where
+  -- the least place that passes, as std has it
+  least_is : (ls : List Lock) → least_below (length ls) (λ i. p (get_or ls i no_lock)) ≡ position_or_len p ls
+  unfolding least_below
+  least_is =
+      is_position_or_len (λ (ls : List Lock). least_below (length ls) (λ i. p (get_or ls i no_lock))) p refl
+      (λ l ls. least_front (length ls) (λ i. p (get_or (l ∷ ls) i no_lock)) ∙ ap (cond (p l) 0) (omega arith))
+
+  -- and where it is looked for
+  pub found : (ls : List Lock) (r : Option ℕ) → length ls ≡ lock_count → r ≡ position p ls → r ≡ place_found (least_below lock_count (λ i. p (get_or ls i no_lock)))
+  found ls r own e = rw (← own, least_is ls) e
+
+-- a place is found where some locks the series
+pub found_lock : (b : Job) (s : ℕ) → ltb (lock_place b s) lock_count ≡ locks_series b s
+unfolding lock_place locks_series
+found_lock b s = some_least lock_count _ _ refl
+
+-- and where not all are used
+pub found_new : (b : Job) → ltb (new_place b) lock_count ≡ non (is_full b)
+unfolding new_place is_full
+found_new b = some_least lock_count _ _ refl ∙ some_non lock_count _
+
+-- what decides the answer of a look for a place, and what stands there where there is none
+pub ruleset places = (found_lock, found_new, put_out, read_out)

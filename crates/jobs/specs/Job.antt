@@ -1,6 +1,6 @@
 -- A job and its locks, from "What the machine covers" in 01: how a record is read, and what its methods give back.
 -- Assumes nothing.
-use Rattle.std.specs.Prelude.{ℕ, Bool, eqb, get_or, set, replicate}
+use Rattle.std.specs.Prelude.{ℕ, Bool, cond, Option, Some, None, eqb, ltb, get_or, set, replicate}
 use Rattle.words.specs.Numbers.{lock_count}
 use Rattle.words.specs.Tests.{non, ◌and◌, some_below, least_below, all_below}
 use Rattle.jobs.specs.declared.Lock.{Lock}
@@ -53,6 +53,10 @@ is_full b = all_below lock_count (is_used b)
 -- the first unused place, or 4
 unfoldable pub new_place : Job → ℕ
 new_place b = least_below lock_count (λ i. non (is_used b i))
+
+-- a place that is looked for; 4 says that there is none
+abbrev pub place_found : ℕ → Option ℕ
+place_found i = cond (ltb i lock_count) (Some i) None
 
 -- ---- what its methods give back
 -- the job with another lock at place i

@@ -18,7 +18,7 @@ pub use walk::first_broken_job;
 
 // A lock of a job: an unused place has mode 0. Laid out as in C, since other programs lend tables of jobs.
 #[repr(C)]
-#[derive(Clone, Copy)]
+#[derive(Clone, Copy, Default)]
 pub struct Lock {
     pub series: u32,
     pub mode: u32,
@@ -27,7 +27,7 @@ pub struct Lock {
 
 // A job slot: the mark is 1 where the job is open, and an unused slot is all zero.
 #[repr(C)]
-#[derive(Clone, Copy)]
+#[derive(Clone, Copy, Default)]
 pub struct Job {
     pub mark: u32,
     pub station: u32,

@@ -1,7 +1,9 @@
 // The job record by value. Its methods read it, or add a lock, note a draw, close it, and hand the record back.
+#![tactic(auto, using(copies::proofs::Guards::chain, crate::proofs::Places::places), unfolding(words::specs::Tests::non, crate::specs::Job::begun, crate::specs::Job::with_lock, crate::specs::Job::with_draw))]
+
 ghost use Rattle.std.specs.Prelude.{◌≡◌, eqb};
 ghost use Rattle.words.specs.Tests.{non, ◌and◌};
-ghost use Rattle.jobs.specs.Job.{no_lock, no_job, job_open, job_there, locks_series, lock_place, lock_on, is_full, new_place, begun, with_lock, with_draw};
+ghost use Rattle.jobs.specs.Job.{no_lock, no_job, job_open, job_there, locks_series, place_found, lock_place, lock_on, is_full, new_place, begun, with_lock, with_draw};
 ghost use Rattle.jobs.specs.Slots.{locks_copy};
 
 use crate::{Job, Lock};
@@ -12,11 +14,7 @@ impl Lock {
     pub fn unused() -> Lock
         ensures { result ≡ no_lock }
     {
-        Lock {
-            series: 0,
-            mode: 0,
-            drawn: 0,
-        }
+        Lock::default()
     }
 
     // Whether the place is used.
@@ -30,7 +28,7 @@ impl Lock {
     pub fn is_on(self, series: u32) -> bool
         ensures { result ≡ (non (eqb self.mode 0) and eqb self.series series) }
     {
-        (self.mode != 0) & (self.series == series)
+        self.is_used() & (self.series == series)
     }
 }
 
@@ -39,12 +37,10 @@ impl Job {
     pub fn begun(station: u32) -> Job
         ensures { result ≡ begun station }
     {
-        let none = Lock::unused();
-        let locks = [none; LOCKS];
         Job {
             mark: 1,
             station,
-            locks,
+            ..Job::default()
         }
     }
 
@@ -52,13 +48,7 @@ impl Job {
     pub fn close(self) -> Job
         ensures { result ≡ no_job }
     {
-        let none = Lock::unused();
-        let locks = [none; LOCKS];
-        Job {
-            mark: 0,
-            station: 0,
-            locks,
-        }
+        Job::default()
     }
 
     // Whether the job is open.
@@ -72,66 +62,51 @@ impl Job {
     pub fn is_at(self, station: u32) -> bool
         ensures { result ≡ job_there self station }
     {
-        (self.mark == 1) & (self.station == station)
+        self.is_open() & (self.station == station)
     }
 
-    // The place that locks a series, or 4.
-    pub fn lock_place(self, series: u32) -> usize
-        ensures { result ≡ lock_place self series }
+    // The place that locks a series.
+    pub fn lock_place(self, series: u32) -> Option<usize>
+        ensures { result ≡ place_found (lock_place self series) }
     {
-        for i in 0..LOCKS {
-            if self.locks[i].is_on(series) {
-                return i;
-            }
-        }
-        LOCKS
+        self.locks.iter().position(|lock| lock.is_on(series))
     }
 
-    // The first unused place, or 4.
-    pub fn new_place(self) -> usize
-        ensures { result ≡ new_place self }
+    // The first unused place.
+    pub fn new_place(self) -> Option<usize>
+        ensures { result ≡ place_found (new_place self) }
     {
-        for i in 0..LOCKS {
-            if self.locks[i].mode == 0 {
-                return i;
-            }
-        }
-        LOCKS
+        self.locks.iter().position(|lock| !lock.is_used())
     }
 
     // Whether the job locks a series.
     pub fn locks_series(self, series: u32) -> bool
         ensures { result ≡ locks_series self series }
     {
-        self.lock_place(series) < LOCKS
+        self.lock_place(series).is_some()
     }
 
     // Whether the job locks the copy of a series at a station.
     pub fn locks_copy(self, series: u32, station: u32) -> bool
         ensures { result ≡ locks_copy self series station }
     {
-        if !self.is_at(station) {
-            return false;
-        }
-        self.locks_series(series)
+        self.is_at(station) && self.locks_series(series)
     }
 
     // Whether the job has four locks.
     pub fn is_full(self) -> bool
         ensures { result ≡ is_full self }
     {
-        self.new_place() == LOCKS
+        self.new_place().is_none()
     }
 
     // The lock on a series, or an unused one.
     pub fn lock_on(self, series: u32) -> Lock
         ensures { result ≡ lock_on self series }
     {
-        let at = self.lock_place(series);
-        if at < LOCKS {
-            self.locks[at]
-        } else {
-            Lock::unused()
+        match self.lock_place(series) {
+            Some(at) => self.locks[at],
+            None => Lock::unused(),
         }
     }
 
@@ -139,8 +114,7 @@ impl Job {
     pub fn add_lock(mut self, series: u32, mode: u32) -> Job
         ensures { result ≡ with_lock self series mode }
     {
-        let at = self.new_place();
-        if at < LOCKS {
+        if let Some(at) = self.new_place() {
             self.locks[at] = Lock {
                 series,
                 mode,
@@ -154,11 +128,8 @@ impl Job {
     pub fn note_draw(mut self, series: u32, count: Serial) -> Job
         ensures { result ≡ with_draw self series count }
     {
-        let at = self.lock_place(series);
-        if at < LOCKS {
-            let mut lock = self.locks[at];
-            lock.drawn = count;
-            self.locks[at] = lock;
+        if let Some(at) = self.lock_place(series) {
+            self.locks[at].drawn = count;
         }
         self
     }

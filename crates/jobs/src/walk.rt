@@ -1,18 +1,19 @@
 // The walk over the sixteen slots that finds the first broken rule of the jobs: W1, W4 or W5.
-ghost use Rattle.std.specs.Prelude.{◌≡◌, List, cond, ℕ, ◌<◌, ◌≤◌, eqb, length};
-ghost use Rattle.words.specs.Numbers.{station_count, series_count, job_count, lock_count, place_count};
+ghost use Rattle.std.specs.Prelude.{◌≡◌, List, cond, ℕ, false, ◌<◌, eqb};
+ghost use Rattle.words.specs.Numbers.{station_count, series_count, job_count, lock_count};
 ghost use Rattle.words.specs.Tests.{non, ◌and◌, all_below};
 ghost use Rattle.copies.specs.Columns.{seen};
 ghost use Rattle.jobs.specs.Job.{lock_at, is_used};
 ghost use Rattle.jobs.specs.Slots.{job_at};
 ghost use Rattle.jobs.specs.Whole.{W1_lock, W1_job, W4_differs, W4_lock, W4_locks, meets, W4_alone, W4_job, W5_lock, W5_job};
-ghost use Rattle.jobs.specs.FirstBroken.{broken_job, first_broken_job, check_jobs};
+ghost use Rattle.jobs.specs.FirstBroken.{broken_job, first_broken_job, short_for_jobs, check_jobs};
 
 use crate::{Job, Lock};
 use copies::{Seen, beyond, is_open, is_up, kind};
 use words::{EXCLUSIVE, Flaw, GREATEST_SERIAL, JOBS, LOCKS, PLACES, Rule, SERIES, SHARE, STATIONS};
 
 // W1 of a lock place.
+#[tactic(auto, using(copies::proofs::Guards::chain), unfolding(crate::specs::Whole::W1_lock))]
 fn lock_in_range(lock: Lock) -> bool
     ensures { result ≡ W1_lock lock }
 {
@@ -20,17 +21,19 @@ fn lock_in_range(lock: Lock) -> bool
 }
 
 // W1 of a job slot.
+#[tactic(auto, using(crate::proofs::Turns::turns, copies::proofs::Guards::chain), unfolding(crate::specs::Whole::W1_job))]
 fn in_range(job: Job) -> bool
     ensures { result ≡ W1_job job }
 {
     let mut all = true;
-    for i in 0..LOCKS {
-        all = all & lock_in_range(job.locks[i]);
+    for lock in job.locks {
+        all = all & lock_in_range(lock);
     }
     (job.mark <= 1) & ((job.station as usize) < STATIONS) & all
 }
 
 // W4: whether no earlier lock of the job is on the series of place i.
+#[tactic(auto, using(crate::proofs::Turns::turns), unfolding(crate::specs::Whole::W4_differs, words::specs::Tests::non))]
 pub fn differs(job: Job, i: usize) -> bool
     requires { i < lock_count }
     ensures { result ≡ W4_differs job i }
@@ -44,8 +47,9 @@ pub fn differs(job: Job, i: usize) -> bool
 }
 
 // W4 of lock place i by itself.
+#[tactic(auto, using(copies::proofs::Guards::chain, crate::proofs::Turns::if_is, copies::proofs::Reading::read_at, words::proofs::Laws::and_true), unfolding(crate::specs::Whole::W4_lock, crate::specs::Whole::W4_exclusive, crate::specs::Whole::W4_share, crate::specs::FirstBroken::short_for_jobs, copies::specs::Calls::bad_copy, copies::specs::Calls::beyond, words::specs::Tests::non))]
 fn lock_fine(job: Job, columns: &Seen<'_>, i: usize) -> bool
-    requires { (series_count ≤ length columns.now.firsts.now) × (series_count ≤ length columns.now.lasts.now) × (place_count ≤ length columns.now.kinds.now) × (place_count ≤ length columns.now.values.now) × (job.station < station_count) × ((lock_at job i).series < series_count) × (i < lock_count) }
+    requires { (short_for_jobs (seen columns.now) ≡ false) × (job.station < station_count) × ((lock_at job i).series < series_count) × (i < lock_count) }
     ensures { result ≡ W4_lock (seen columns.now) job i }
 {
     let lock = job.locks[i];
@@ -65,8 +69,9 @@ fn lock_fine(job: Job, columns: &Seen<'_>, i: usize) -> bool
 }
 
 // W4 of the four lock places.
+#[tactic(auto, using(crate::proofs::Turns::turns), unfolding(crate::specs::Whole::W4_locks))]
 fn locks_fine(job: Job, columns: &Seen<'_>) -> bool
-    requires { (series_count ≤ length columns.now.firsts.now) × (series_count ≤ length columns.now.lasts.now) × (place_count ≤ length columns.now.kinds.now) × (place_count ≤ length columns.now.values.now) × (job.station < station_count) × ((i : ℕ) → i < lock_count → (lock_at job i).series < series_count) }
+    requires { (short_for_jobs (seen columns.now) ≡ false) × (job.station < station_count) × ((i : ℕ) → i < lock_count → (lock_at job i).series < series_count) }
     ensures { result ≡ W4_locks (seen columns.now) job }
 {
     let mut all = true;
@@ -77,6 +82,7 @@ fn locks_fine(job: Job, columns: &Seen<'_>) -> bool
 }
 
 // W4: whether another job locks a copy that the job locks exclusively.
+#[tactic(auto, using(crate::proofs::Turns::turns, copies::proofs::Guards::chain), unfolding(crate::specs::Whole::meets))]
 fn meets(job: Job, other: Job) -> bool
     ensures { result ≡ meets job other }
 {
@@ -84,14 +90,14 @@ fn meets(job: Job, other: Job) -> bool
         return false;
     }
     let mut some = false;
-    for i in 0..LOCKS {
-        let lock = job.locks[i];
+    for lock in job.locks {
         some = some | ((lock.mode == EXCLUSIVE) & other.locks_series(lock.series));
     }
     some
 }
 
 // W4: whether no other job locks what job j locks exclusively.
+#[tactic(auto, using(crate::proofs::Turns::turns, copies::proofs::Guards::chain), unfolding(crate::specs::Whole::W4_alone, words::specs::Tests::non))]
 fn alone(jobs: &[Job; JOBS], j: usize) -> bool
     requires { j < job_count }
     ensures { result ≡ W4_alone jobs.now j }
@@ -105,6 +111,7 @@ fn alone(jobs: &[Job; JOBS], j: usize) -> bool
 }
 
 // W5 of a lock place, by whether all before it are used.
+#[tactic(auto, using(copies::proofs::Guards::chain))]
 fn place_fine(lock: Lock, before: bool) -> bool
     ensures { result ≡ cond (eqb lock.mode 0) (eqb lock.series 0 and eqb lock.drawn 0) before }
 {
@@ -116,31 +123,33 @@ fn place_fine(lock: Lock, before: bool) -> bool
 }
 
 // W5 of the four lock places.
+#[tactic(auto, using(crate::proofs::Turns::turns, copies::proofs::Guards::chain), unfolding(crate::specs::Whole::W5_lock))]
 fn places_fine(job: Job) -> bool
     ensures { result ≡ all_below lock_count (λ i. W5_lock job i) }
 {
     let mut before = true;
     let mut all = true;
-    for i in 0..LOCKS {
-        let lock = job.locks[i];
+    for lock in job.locks {
         all = all & place_fine(lock, before);
-        before = before & (lock.mode != 0);
+        before = before & lock.is_used();
     }
     all
 }
 
 // Whether no lock place is used.
+#[tactic(auto, using(crate::proofs::Turns::turns), unfolding(words::specs::Tests::non))]
 fn has_no_lock(job: Job) -> bool
     ensures { result ≡ all_below lock_count (λ i. non (is_used job i)) }
 {
     let mut all = true;
-    for i in 0..LOCKS {
-        all = all & (job.locks[i].mode == 0);
+    for lock in job.locks {
+        all = all & !lock.is_used();
     }
     all
 }
 
 // W5 of a job slot.
+#[tactic(auto, using(copies::proofs::Guards::chain, crate::proofs::Turns::if_is), unfolding(crate::specs::Whole::W5_job))]
 fn unused_fine(job: Job) -> bool
     ensures { result ≡ W5_job job }
 {
@@ -152,8 +161,9 @@ fn unused_fine(job: Job) -> bool
 }
 
 // W4 of a job whose numbers are in range; `apart` says that no other job locks what it locks exclusively.
+#[tactic(auto, using(copies::proofs::Guards::chain, crate::proofs::Turns::if_is, copies::proofs::Reading::read_at), unfolding(crate::specs::Whole::W4_job, crate::specs::FirstBroken::short_for_jobs))]
 fn open_fine(job: Job, columns: &Seen<'_>, apart: bool) -> bool
-    requires { (series_count ≤ length columns.now.firsts.now) × (series_count ≤ length columns.now.lasts.now) × (place_count ≤ length columns.now.kinds.now) × (place_count ≤ length columns.now.values.now) × (station_count ≤ length columns.now.up.now) × (job.station < station_count) × ((i : ℕ) → i < lock_count → (lock_at job i).series < series_count) }
+    requires { (short_for_jobs (seen columns.now) ≡ false) × (job.station < station_count) × ((i : ℕ) → i < lock_count → (lock_at job i).series < series_count) }
     ensures { (bs : List Job) (j : ℕ) → job ≡ job_at bs j → apart ≡ W4_alone bs j → result ≡ W4_job (seen columns.now) bs j }
 {
     if !job.is_open() {
@@ -163,8 +173,9 @@ fn open_fine(job: Job, columns: &Seen<'_>, apart: bool) -> bool
 }
 
 // The first rule that a job breaks; `apart` says that no other job locks what it locks exclusively.
+#[tactic(auto, using(crate::proofs::Ways::in_ranges, crate::proofs::Ways::decided), unfolding(crate::specs::FirstBroken::broken_job))]
 fn job_rule(job: Job, columns: &Seen<'_>, apart: bool) -> Option<Rule>
-    requires { (series_count ≤ length columns.now.firsts.now) × (series_count ≤ length columns.now.lasts.now) × (place_count ≤ length columns.now.kinds.now) × (place_count ≤ length columns.now.values.now) × (station_count ≤ length columns.now.up.now) }
+    requires { short_for_jobs (seen columns.now) ≡ false }
     ensures { (bs : List Job) (j : ℕ) → job ≡ job_at bs j → apart ≡ W4_alone bs j → result ≡ broken_job (seen columns.now) bs j }
 {
     if !in_range(job) {
@@ -180,8 +191,9 @@ fn job_rule(job: Job, columns: &Seen<'_>, apart: bool) -> Option<Rule>
 }
 
 // The first rule that the slots break.
+#[tactic(auto, using(copies::proofs::Guards::chain, crate::proofs::Turns::if_is, crate::proofs::Ways::walked), unfolding(crate::specs::FirstBroken::first_broken_job, crate::specs::FirstBroken::broken_job, crate::specs::Whole::W4_job))]
 fn broken_rule(jobs: &[Job; JOBS], columns: &Seen<'_>) -> Option<Rule>
-    requires { (series_count ≤ length columns.now.firsts.now) × (series_count ≤ length columns.now.lasts.now) × (place_count ≤ length columns.now.kinds.now) × (place_count ≤ length columns.now.values.now) × (station_count ≤ length columns.now.up.now) }
+    requires { short_for_jobs (seen columns.now) ≡ false }
     ensures { result ≡ first_broken_job (seen columns.now) jobs.now }
 {
     for j in 0..JOBS {
@@ -199,6 +211,7 @@ fn broken_rule(jobs: &[Job; JOBS], columns: &Seen<'_>) -> Option<Rule>
 }
 
 // What the walk finds wrong in the slots and in tables of any size.
+#[tactic(auto, using(copies::proofs::Guards::chain), unfolding(crate::specs::FirstBroken::short_for_jobs, crate::specs::FirstBroken::check_jobs, copies::specs::FirstBroken::found_by))]
 pub fn first_broken_job(jobs: &[Job; JOBS], columns: &Seen<'_>) -> Result<(), Flaw>
     ensures { result ≡ check_jobs (seen columns.now) jobs.now }
 {

@@ -1,22 +1,14 @@
--- `jobs::Job::lock_place` meets its contract: no place before i locks the series. Assumes nothing.
-use native.Mathlib.Omega.{arith}
-use mathlib.Core.Path.{refl}
-use Rattle.words.specs.Tests.{some_below}
-use Rattle.words.proofs.Laws.{some_miss, least_stop, least_end}
+use Rattle.std.proofs.Common.{rules, tests, eqb}
+use Rattle.std.proofs.lemmas.Iterator.{YieldsList-from_slice}
+use Rattle.std.proofs.lemmas.Iterator.Search.{position_from_yields_List}
+use Rattle.jobs.specs.declared.Lock.{Lock}
+use Rattle.words.specs.Tests.{non, ◌and◌}
 use Rattle.jobs.specs.Job.{lock_place}
+use Rattle.jobs.proofs.Places.{found, length_mapped}
 use Rattle.jobs.proofs.Job.lock_place.Goals as goal
-
-pub loop-i-init : goal.loop-i-init
-unfolding some_below
-loop-i-init c = (omega arith, refl)
-
-pub returns-then-is_on : goal.returns-then-is_on
-unfolding lock_place
-returns-then-is_on c = search least_stop
-
-pub loop-i-preserved : goal.loop-i-preserved
-loop-i-preserved c = (omega arith, search some_miss)
 
 pub returns : goal.returns
 unfolding lock_place
-returns c = search least_end
+returns c =
+    found (λ (l : Lock). non (eqb l.mode 0) and eqb l.series c.args.series) _ _ (search length_mapped)
+    (position_from_yields_List _ _ _ _ c.position.ensures.ran (YieldsList-from_slice c.args.self.locks cc) (λ x b q k. search (rules, tests)))

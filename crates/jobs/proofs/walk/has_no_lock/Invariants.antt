@@ -1,10 +1,8 @@
--- `has_no_lock` meets its contract: after i turns, the lock places below i have been tested. Assumes nothing.
-use Prim.Native.Nat.{◌≤◌}
+-- `has_no_lock` meets its contract: the lock places passed have been tested. Assumes nothing.
 use mathlib.Core.Path.{◌≡◌}
-use Rattle.words.specs.Numbers.{lock_count}
 use Rattle.words.specs.Tests.{non, all_below}
 use Rattle.jobs.specs.Job.{is_used}
 use Rattle.jobs.proofs.walk.has_no_lock.Given as goal
 
-abbrev pub invariant-loop-i : goal.invariant-loop-i
-invariant-loop-i l = (l.i ≤ lock_count) × (l.all ≡ all_below l.i (λ k. non (is_used l.job k)))
+abbrev pub invariant-loop-lock : goal.invariant-loop-lock
+invariant-loop-lock l = l.all ≡ all_below l.lock-index (λ i. non (is_used l.fn.job i))
