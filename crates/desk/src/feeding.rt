@@ -104,6 +104,7 @@ fn answer(
     let said = judge(
         line, jobs, firsts, lasts, kinds, values, sent, relto, relkind, relvalue, received, up, row,
     );
+    // no more of the output is shown than there is of it
     let shown = &row[..said.shown.min(row.len())];
     let next = write_answer(out, at, number, said.answer, shown).unwrap();
     let slots = said.jobs;
@@ -134,6 +135,7 @@ fn whole_line(text: &[u8], at: usize, room: usize, number: u64) -> Option<Line>
 
 // Answers the whole lines at the front of a text, the first of which has the number given, into out from its start on, as long as out
 // has room for an answer of any length. The output that a COMMIT writes its draws into is row.
+#[tactic(auto, using(crate::proofs::Walks::found_ways))]
 pub fn feed(
     text: &[u8],
     number: u64,

@@ -8,25 +8,6 @@ use Rattle.desk.proofs.feeding.feed.Goals as goal
 pub loop-line-init : goal.loop-line-init
 loop-line-init c = (still_first _ _ _, omega arith, omega arith)
 
-pub slice_bounds-answer-count : goal.slice_bounds-answer-count
-slice_bounds-answer-count c = (whole_found _ _ _ _ (sym c.whole_line.ensures ∙ c.in-Some.is)).forward
-
-pub slice_bounds-answer-start : goal.slice_bounds-answer-start
-slice_bounds-answer-start c = let w = whole_found _ _ _ _ (sym c.whole_line.ensures ∙ c.in-Some.is) in omega (arith, w.forward, w.inside)
-
-pub slice_bounds-answer-end : goal.slice_bounds-answer-end
-slice_bounds-answer-end c = let w = whole_found _ _ _ _ (sym c.whole_line.ensures ∙ c.in-Some.is) in omega (arith, w.inside)
-
-pub answer-said-requires : goal.answer-said-requires
-answer-said-requires c = let w = whole_found _ _ _ _ (sym c.whole_line.ensures ∙ c.in-Some.is) in omega (arith, w.fits)
-
-pub overflow_add-count : goal.overflow_add-count
-overflow_add-count c = let w = whole_found _ _ _ _ (sym c.whole_line.ensures ∙ c.in-Some.is) in omega (arith, w.numbered)
-
-pub loop-line-smaller : goal.loop-line-smaller
-loop-line-smaller c =
-    let w = whole_found _ _ _ _ (sym c.whole_line.ensures ∙ c.in-Some.is) in omega (arith, w.starts, w.forward, w.inside, w.goes)
-
 pub loop-line-preserved : goal.loop-line-preserved
 loop-line-preserved c =
     let l = c.loop-line in
