@@ -14,6 +14,11 @@ take_least : (m n : ℕ) (l : List ℕ) → take m (take n l) ≡ take (min m n)
 take_least m n l =
     min_cases m n _ (λ h e. rw e (take-take m n l h)) (λ h e. rw e (take_all m (take n l) (omega (arith, length-take n l))))
 
+-- no more is kept than a line that can still be good, and one byte
+pub kept_within : (bytes : List ℕ) (from end : ℕ) {r : ℕ} → r ≡ length (kept bytes from end) → r ≤ kept_bytes
+unfolding kept
+kept_within bytes from end e = omega (arith, length-take kept_bytes (drop from (take end bytes)))
+
 -- a part of the bytes ends at stop, where they end before it
 module _ (bytes : List ℕ) (from end : ℕ) {stop : ℕ} (s : stop ≡ min end (length bytes)) where
   -- no byte is in it: none is kept

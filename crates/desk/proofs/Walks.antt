@@ -9,7 +9,7 @@ use lib.ListN.{length, take, drop, length-append, length-drop}
 use lib.Seq.{drop-drop, length-take-le}
 use borrow.Author.Tests.{eqb-true, eqb-false, eq-eqb, ne_eqb, leb-true, le-leb, ltb-true, ltb-false, lt-ltb, le-ltb}
 use Rattle.digits.specs.Bytes.{LF}
-use Rattle.std.specs.Prelude.{Some, None}
+use Rattle.std.specs.Prelude.{Option, Some, None}
 use Rattle.std.proofs.lemmas.Option.{none-some, same_Some}
 use Rattle.lines.specs.declared.Line.{Line}
 use Rattle.lines.specs.Texts.{until_end, line_end, line_at}
@@ -133,6 +133,29 @@ module _ (t : List ℕ) (start room n : ℕ) where
           })
       by true false p q = absurd (none-some l (sym (found_is ∙ rw (p, q)) ∙ found))
       by false b p q = absurd (none-some l (sym (found_is ∙ rw p) ∙ found))
+
+-- and so is what a call needs to go on with it
+module _ (t : List ℕ) (start room n : ℕ) (found : Option Line) (l : Line) (e : found ≡ whole_line t start room n) (f : found ≡ Some l) where
+  whole : Whole t start room n l
+  whole = whole_found t start room n (sym e ∙ f)
+
+  pub found_forward : l.start ≤ l.end
+  found_forward = whole.forward
+
+  pub found_inside : l.end < length t
+  found_inside = whole.inside
+
+  pub found_next : (start < l.next) × (l.next ≤ length t)
+  found_next = let w = whole in (omega arith, omega arith)
+
+  pub found_fits : answer_room ≤ room
+  found_fits = whole.fits
+
+  pub found_numbered : n ≤ greatest_line
+  found_numbered = whole.numbered
+
+-- what is known of a line that was found
+pub ruleset found_ways = (found_forward, found_inside, found_next, found_fits, found_numbered)
 
 module _ (t : List ℕ) (start room : ℕ) (d : Desk) where
   -- where the search finds nothing, nothing is used

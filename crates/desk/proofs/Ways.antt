@@ -9,7 +9,6 @@ use native.Mathlib.Omega.{arith}
 use lib.Dec.{eqb}
 use lib.ListN.{length, take}
 use lib.Seq.{sets}
-use borrow.Author.Tests.{eq-eqb, ne_eqb}
 use Rattle.words.specs.declared.Refusal.TheVariants.{BadEvent}
 use Rattle.words.specs.Answers.{value_of}
 use Rattle.copies.specs.Tables.{Copies}
@@ -29,14 +28,6 @@ use Rattle.lines.specs.Printed.{reply, answer_text, answer_room}
 use Rattle.desk.specs.declared.feeding.Judged.{Judged}
 use Rattle.desk.specs.Desk.{desk, Heard, heard_step, heard, says, after}
 use Rattle.desk.specs.Calls.{judged, Put, answered, put}
-
--- a COMMIT shows three numbers for each draw
-pub shown_some : (kind w v : ℕ) → kind ≡ COMMIT → w ≡ v → 3 * w ≡ cond (eqb kind COMMIT) (3 * v) 0
-shown_some kind w v k e = rw (eq-eqb kind COMMIT k, e)
-
--- any other event none
-pub shown_none : (kind v : ℕ) → (kind ≡ COMMIT → ⊥) → 0 ≡ cond (eqb kind COMMIT) (3 * v) 0
-shown_none kind v k = rw (ne_eqb kind COMMIT k)
 
 -- so many numbers, or none
 take_if : (q : Bool) (n : ℕ) (ns : List ℕ) → take (cond q n 0) ns ≡ cond q (take n ns) []

@@ -67,6 +67,7 @@ fn answer(
     ensures at_bound { result ≤ at + answer_room }
 {
     let said = judge(line, jobs, columns, row);
+    // no more of the output is shown than there is of it
     let shown = &row[..said.shown.min(row.len())];
     write_answer(out, at, number, said.answer, shown).unwrap()
 }
@@ -92,6 +93,7 @@ fn whole_line(text: &[u8], at: usize, room: usize, number: u64) -> Option<Line>
 
 // Answers the whole lines at the front of a text, the first of which has the number given, into out from its start on, as long as out
 // has room for an answer of any length. The output that a COMMIT writes its draws into is row.
+#[tactic(auto, using(crate::proofs::Walks::found_ways))]
 pub fn feed(
     text: &[u8],
     number: u64,

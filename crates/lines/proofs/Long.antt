@@ -164,3 +164,6 @@ module _ (e : Event) (at : ℕ) {count kind : ℕ} (c : count ≡ field_count e.
       unfolding event_text
       event_bytes out last q o =
           (rw c at q) ∙ line_text first out at p e.kind _ at_fields (rw k at o) ∙ (room_found event_room first at (event_text e) h g).1
+
+-- what writing an answer line or an event line comes to
+pub ruleset written_ways = (answer_to, answer_bytes, event_to, event_bytes)

@@ -13,7 +13,7 @@ until_end (b ∷ t) = cond (eqb b LF) 0 (suc (until_end t))
 unfoldable pub line_end : List ℕ → ℕ → ℕ
 line_end t at = at + until_end (drop at t)
 
--- where the line after one that ends at a position starts: past its LF, which a last line may lack
+-- where the line after one starts that ends at a position: past its LF, or there where a last line lacks it
 abbrev pub next_start : List ℕ → ℕ → ℕ
 next_start t end = cond (ltb end (length t)) (end + 1) end
 

@@ -67,7 +67,7 @@ fn put_answer(
 
 // An answer line at a position of out: the line's number, the answer's code and value, and the numbers of row, at most twelve. It asks
 // for room for any answer line; else out stays as it is.
-#[tactic(auto, using(digits::proofs::Laws::no_room))]
+#[tactic(auto, using(digits::proofs::Laws::no_room, crate::proofs::Long::written_ways))]
 pub fn write_answer(
     out: &mut [u8],
     at: usize,
@@ -91,7 +91,7 @@ pub fn write_answer(
 
 // An event line at a position of out: the kind and exactly its fields. It asks for room for any event line; else out stays
 // as it is.
-#[tactic(auto, using(digits::proofs::Laws::no_room, crate::proofs::Fields::count_most))]
+#[tactic(auto, using(digits::proofs::Laws::no_room, crate::proofs::Fields::count_most, crate::proofs::Long::written_ways))]
 pub fn write_event(out: &mut [u8], at: usize, event: Event) -> Option<usize>
     ensures value { result ≡ wrote_at event_room (length out.old) at (event_text event) }
     ensures out_after { out.new ≡ written_at event_room out.old at (event_text event) }

@@ -9,25 +9,6 @@ use Rattle.desk.proofs.feeding.feed.Goals as goal
 pub loop-line-init : goal.loop-line-init
 loop-line-init c = (still_first _ _ _, omega arith, omega arith, same_first c.args.columns.now)
 
-pub slice_bounds-said-count : goal.slice_bounds-said-count
-slice_bounds-said-count c = (whole_found _ _ _ _ (sym c.whole_line.ensures ∙ c.in-Some.is)).forward
-
-pub slice_bounds-said-start : goal.slice_bounds-said-start
-slice_bounds-said-start c = let w = whole_found _ _ _ _ (sym c.whole_line.ensures ∙ c.in-Some.is) in omega (arith, w.forward, w.inside)
-
-pub slice_bounds-said-end : goal.slice_bounds-said-end
-slice_bounds-said-end c = let w = whole_found _ _ _ _ (sym c.whole_line.ensures ∙ c.in-Some.is) in omega (arith, w.inside)
-
-pub answer-at-requires : goal.answer-at-requires
-answer-at-requires c = let w = whole_found _ _ _ _ (sym c.whole_line.ensures ∙ c.in-Some.is) in omega (arith, w.fits)
-
-pub overflow_add-count : goal.overflow_add-count
-overflow_add-count c = let w = whole_found _ _ _ _ (sym c.whole_line.ensures ∙ c.in-Some.is) in omega (arith, w.numbered)
-
-pub loop-line-smaller : goal.loop-line-smaller
-loop-line-smaller c =
-    let w = whole_found _ _ _ _ (sym c.whole_line.ensures ∙ c.in-Some.is) in omega (arith, w.starts, w.forward, w.inside, w.goes)
-
 pub loop-line-preserved : goal.loop-line-preserved
 loop-line-preserved c =
     let l = c.loop-line in
