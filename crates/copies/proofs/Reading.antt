@@ -12,7 +12,7 @@ use lib.ListN.{get_or, length}
 use Rattle.words.specs.Numbers.{station_count, series_count, place_count}
 use Rattle.words.specs.Tests.{non, ◌or◌, sum_below}
 use Rattle.words.proofs.Laws.{or_true}
-use Rattle.copies.proofs.Guards.{guards}
+use Rattle.copies.proofs.Guards.{chain}
 use Rattle.copies.specs.Tables.{Copies, series_at, place, is_open, is_up, kind, value}
 use Rattle.copies.specs.Steps.{is_beyond}
 use Rattle.copies.specs.Calls.{read, bad_copy, beyond}
@@ -34,7 +34,7 @@ module _ (size : ℕ) (column : List ℕ) (bad : Bool) (at : ℕ) where
   read_at l e = rw (le-ltb _ _ l, e)
 
 -- each way out of a reading call
-pub ruleset ways = (read_short, read_bad, read_at, guards)
+pub ruleset ways = (read_short, read_bad, read_at, chain)
 
 -- ---- what the reading calls say of a series and a station that there are, where no column is short
 -- whether a series is open

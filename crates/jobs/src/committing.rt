@@ -1,14 +1,14 @@
 // COMMIT: every count that the job has drawn is added to its copy's value, and the serials leave the machine.
-#![tactic(auto, using(crate::proofs::Stored::outcomes), unfolding(crate::specs::Calls::commit, crate::specs::Calls::commit_in))]
+#![tactic(auto, using(crate::proofs::Stored::outcomes), unfolding(crate::specs::Calls::commit, crate::specs::Calls::commit_in, words::specs::Tests::refuse_if, words::specs::Tests::non))]
 
-ghost use Rattle.std.specs.Prelude.{◌≡◌, List, ℕ, ◌+◌, ◌<◌, ◌≤◌, length};
-ghost use Rattle.words.specs.Numbers.{series_count, lock_count, place_count, out_count};
+ghost use Rattle.std.specs.Prelude.{◌≡◌, List, ◌+◌, ◌<◌, ◌≤◌, length};
+ghost use Rattle.words.specs.Numbers.{lock_count, out_count};
 ghost use Rattle.copies.specs.Columns.{lent, seen, SameColumns};
 ghost use Rattle.jobs.specs.Draws.{draw_fits, fits};
 ghost use Rattle.jobs.specs.Store.{store, store_one, store_first};
 ghost use Rattle.jobs.specs.declared.Job.{Job};
 ghost use Rattle.jobs.specs.Slots.{job_at};
-ghost use Rattle.jobs.specs.Calls.{turn, turned, outcome, commit, commit_in};
+ghost use Rattle.jobs.specs.Calls.{turn, turned, outcome, commit};
 
 use crate::walk::differs;
 use crate::{Job, Lock};
@@ -88,24 +88,6 @@ fn store_all(job: Job, columns: &mut Lent<'_>, out: &mut [Serial]) -> usize
     count
 }
 
-// COMMIT where refusals 1 and 3 are not given.
-fn commit_in(job: &mut Job, columns: &mut Lent<'_>, out: &mut [Serial]) -> Answer
-    requires { (series_count ≤ length columns.old.lasts.now) × (place_count ≤ length columns.old.values.now) × (out_count ≤ length out.old) }
-    ensures same { SameColumns columns.old columns.new }
-    ensures leaves { (bs : List Job) (j : ℕ) → job.old ≡ job_at bs j → outcome (turned bs j (turn result job.new)) (lent columns.new) out.new
-        ≡ commit_in (lent columns.old) bs out.old j }
-{
-    if !job.is_open() {
-        return Err(Refusal::None);
-    }
-    if !fits(*job, &columns.seen()) {
-        return Err(Refusal::NotWhole);
-    }
-    let count = store_all(*job, columns, out);
-    *job = job.close();
-    Ok(count as Serial)
-}
-
 // 7 COMMIT: each drawn count is added to the copy's value and shown in the output, and the job closes; the value is the number of draws.
 pub fn commit(job: &mut Job, columns: &mut Lent<'_>, out: &mut [Serial], slot: u32) -> Answer
     ensures same { SameColumns columns.old columns.new }
@@ -118,5 +100,13 @@ pub fn commit(job: &mut Job, columns: &mut Lent<'_>, out: &mut [Serial], slot: u
     if JOBS <= slot as usize {
         return Err(Refusal::BadEvent);
     }
-    commit_in(job, columns, out)
+    if !job.is_open() {
+        return Err(Refusal::None);
+    }
+    if !fits(*job, &columns.seen()) {
+        return Err(Refusal::NotWhole);
+    }
+    let count = store_all(*job, columns, out);
+    *job = job.close();
+    Ok(count as Serial)
 }

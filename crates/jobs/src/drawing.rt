@@ -1,38 +1,15 @@
 // DRAW and READ: what a job does with the series that it locks. No serial leaves the machine here.
-#![tactic(auto, using(crate::proofs::OneSlot::turns), unfolding(crate::specs::Calls::draw, crate::specs::Calls::draw_in, crate::specs::Calls::read, crate::specs::Calls::read_in))]
+#![tactic(auto, using(crate::proofs::OneSlot::turns), unfolding(crate::specs::Calls::draw, crate::specs::Calls::draw_in, crate::specs::Calls::read, crate::specs::Calls::read_in, words::specs::Tests::refuse_if, words::specs::Tests::non))]
 
-ghost use Rattle.std.specs.Prelude.{◌≡◌, List, ℕ, ◌<◌, ◌≤◌, length};
-ghost use Rattle.words.specs.Numbers.{series_count, place_count};
+ghost use Rattle.std.specs.Prelude.{◌≡◌, List};
 ghost use Rattle.copies.specs.Columns.{seen};
 ghost use Rattle.jobs.specs.declared.Job.{Job};
 ghost use Rattle.jobs.specs.Slots.{job_at};
-ghost use Rattle.jobs.specs.Calls.{turn, turned, draw, draw_in, read, read_in};
+ghost use Rattle.jobs.specs.Calls.{turn, turned, draw, read};
 
 use crate::Job;
 use copies::{Seen, beyond, is_open, value};
 use words::{Answer, EXCLUSIVE, GREATEST_SERIAL, JOBS, PLACES, Refusal, SERIES, Serial};
-
-// DRAW where refusals 1 and 3 are not given.
-fn draw_in(job: &mut Job, columns: &Seen<'_>, series: u32, count: Serial) -> Answer
-    requires { (series_count ≤ length columns.now.firsts.now) × (series < series_count) }
-    ensures { (bs : List Job) (j : ℕ) → job.old ≡ job_at bs j → turned bs j (turn result job.new) ≡ draw_in (seen columns.now) bs j series count }
-{
-    if !is_open(columns, series) | !job.is_open() {
-        return Err(Refusal::None);
-    }
-    let lock = job.lock_on(series);
-    if !job.locks_series(series) | (lock.mode != EXCLUSIVE) {
-        return Err(Refusal::NoLock);
-    }
-    if lock.drawn != 0 {
-        return Err(Refusal::Drawn);
-    }
-    if beyond(columns, series, job.station, count) {
-        return Err(Refusal::Range);
-    }
-    *job = job.note_draw(series, count);
-    Ok(0)
-}
 
 // 5 DRAW: notes the count.
 pub fn draw(job: &mut Job, columns: &Seen<'_>, slot: u32, series: u32, count: Serial) -> Answer
@@ -51,26 +28,21 @@ pub fn draw(job: &mut Job, columns: &Seen<'_>, slot: u32, series: u32, count: Se
     {
         return Err(Refusal::BadEvent);
     }
-    draw_in(job, columns, series, count)
-}
-
-// READ where refusals 1 and 3 are not given.
-fn read_in(job: Job, columns: &Seen<'_>, series: u32) -> Answer
-    requires { (series_count ≤ length columns.now.firsts.now) × (place_count ≤ length columns.now.values.now) × (series < series_count) }
-    ensures { result ≡ read_in (seen columns.now) job series }
-{
     if !is_open(columns, series) | !job.is_open() {
         return Err(Refusal::None);
     }
-    if !job.locks_series(series) {
+    let lock = job.lock_on(series);
+    if !job.locks_series(series) | (lock.mode != EXCLUSIVE) {
         return Err(Refusal::NoLock);
     }
-    let lock = job.lock_on(series);
-    let next = value(columns, series, job.station);
-    if GREATEST_SERIAL as u64 + 1 < next as u64 + lock.drawn as u64 {
-        return Err(Refusal::NotWhole);
+    if lock.drawn != 0 {
+        return Err(Refusal::Drawn);
     }
-    Ok(next + lock.drawn)
+    if beyond(columns, series, job.station, count) {
+        return Err(Refusal::Range);
+    }
+    *job = job.note_draw(series, count);
+    Ok(0)
 }
 
 // 6 READ: the value of the station's copy and the job's own drawn count.
@@ -83,5 +55,16 @@ pub fn read(job: Job, columns: &Seen<'_>, slot: u32, series: u32) -> Answer
     if (JOBS <= slot as usize) | (SERIES <= series as usize) {
         return Err(Refusal::BadEvent);
     }
-    read_in(job, columns, series)
+    if !is_open(columns, series) | !job.is_open() {
+        return Err(Refusal::None);
+    }
+    if !job.locks_series(series) {
+        return Err(Refusal::NoLock);
+    }
+    let lock = job.lock_on(series);
+    let next = value(columns, series, job.station);
+    if GREATEST_SERIAL as u64 + 1 < next as u64 + lock.drawn as u64 {
+        return Err(Refusal::NotWhole);
+    }
+    Ok(next + lock.drawn)
 }

@@ -1,12 +1,15 @@
 // BEGIN, LOCKX, LOCKS and ABORT: a job opens, locks, and closes with its copies unchanged.
-#![tactic(auto, using(crate::proofs::OneSlot::turns), unfolding(crate::specs::Calls::begin, crate::specs::Calls::lock_in, crate::specs::Calls::lockx, crate::specs::Calls::locks, crate::specs::Calls::abort))]
+#![tactic(auto, using(crate::proofs::OneSlot::turns), unfolding(crate::specs::Calls::begin, crate::specs::Calls::lock_in, crate::specs::Calls::lockx, crate::specs::Calls::locks, crate::specs::Calls::abort, words::specs::Tests::refuse_if, words::specs::Tests::non))]
 
-ghost use Rattle.std.specs.Prelude.{◌≡◌, List, ℕ, ◌<◌, ◌≤◌, length};
-ghost use Rattle.words.specs.Numbers.{series_count, place_count};
+ghost use Rattle.std.specs.Prelude.{◌≡◌, List, leb};
+ghost use Rattle.words.specs.declared.Refusal.TheVariants.{Short, BadEvent};
+ghost use Rattle.words.specs.Numbers.{series_count, job_count, place_count};
+ghost use Rattle.words.specs.Tests.{◌or◌};
 ghost use Rattle.copies.specs.Columns.{seen};
+ghost use Rattle.copies.specs.Calls.{lacks};
 ghost use Rattle.jobs.specs.declared.Job.{Job};
 ghost use Rattle.jobs.specs.Slots.{job_at};
-ghost use Rattle.jobs.specs.Calls.{turn, turned, begin, lock_in, lockx, locks, abort};
+ghost use Rattle.jobs.specs.Calls.{turn, turned, refuse, begin, lock_in, lockx, locks, abort};
 
 use crate::Job;
 use copies::{Seen, is_open, is_up, kind};
@@ -32,11 +35,19 @@ pub fn begin(job: &mut Job, columns: &Seen<'_>, slot: u32, station: u32) -> Answ
     Ok(0)
 }
 
-// A lock where refusals 1 and 3 are not given: of the mode, on a copy of that kind.
-fn lock_in(job: &mut Job, columns: &Seen<'_>, free: bool, series: u32, mode: u32) -> Answer
-    requires { (series_count ≤ length columns.now.firsts.now) × (place_count ≤ length columns.now.kinds.now) × (series < series_count) }
-    ensures { (bs : List Job) (j : ℕ) → job.old ≡ job_at bs j → turned bs j (turn result job.new) ≡ lock_in (seen columns.now) bs free j series mode }
+// LOCKX and LOCKS: a lock of the mode, on a free copy of that kind.
+fn lock(job: &mut Job, columns: &Seen<'_>, free: bool, slot: u32, series: u32, mode: u32) -> Answer
+    ensures { (bs : List Job) → job.old ≡ job_at bs slot → turned bs slot (turn result job.new) ≡
+        refuse bs Short (lacks series_count columns.now.firsts.now or lacks place_count columns.now.kinds.now)
+        (refuse bs BadEvent (leb job_count slot or leb series_count series)
+        (lock_in (seen columns.now) bs free slot series mode)) }
 {
+    if (columns.firsts.len() < SERIES) | (columns.kinds.len() < PLACES) {
+        return Err(Refusal::Short);
+    }
+    if (JOBS <= slot as usize) | (SERIES <= series as usize) {
+        return Err(Refusal::BadEvent);
+    }
     if !is_open(columns, series) | !job.is_open() {
         return Err(Refusal::None);
     }
@@ -66,26 +77,14 @@ pub fn lock_exclusive(
 ) -> Answer
     ensures { (bs : List Job) → job.old ≡ job_at bs slot → turned bs slot (turn result job.new) ≡ lockx (seen columns.now) bs free slot series }
 {
-    if (columns.firsts.len() < SERIES) | (columns.kinds.len() < PLACES) {
-        return Err(Refusal::Short);
-    }
-    if (JOBS <= slot as usize) | (SERIES <= series as usize) {
-        return Err(Refusal::BadEvent);
-    }
-    lock_in(job, columns, free, series, EXCLUSIVE)
+    lock(job, columns, free, slot, series, EXCLUSIVE)
 }
 
 // 4 LOCKS: needs a share copy, which other jobs may lock too.
 pub fn lock_share(job: &mut Job, columns: &Seen<'_>, slot: u32, series: u32) -> Answer
     ensures { (bs : List Job) → job.old ≡ job_at bs slot → turned bs slot (turn result job.new) ≡ locks (seen columns.now) bs slot series }
 {
-    if (columns.firsts.len() < SERIES) | (columns.kinds.len() < PLACES) {
-        return Err(Refusal::Short);
-    }
-    if (JOBS <= slot as usize) | (SERIES <= series as usize) {
-        return Err(Refusal::BadEvent);
-    }
-    lock_in(job, columns, true, series, SHARE)
+    lock(job, columns, true, slot, series, SHARE)
 }
 
 // 8 ABORT: the job closes.

@@ -37,7 +37,7 @@ pub fn close_station(jobs: &mut [Job; JOBS], station: u32) -> u32
 }
 
 // 16 CRASH: the station is down, its jobs are closed; the value is how many.
-#[tactic(auto, using(copies::proofs::Guards::guards), unfolding(crate::specs::Calls::crash, copies::specs::Calls::crash))]
+#[tactic(auto, using(copies::proofs::Guards::chain), unfolding(crate::specs::Calls::crash, copies::specs::Calls::crash, words::specs::Tests::refuse_if, words::specs::Tests::non))]
 pub fn crash(jobs: &mut [Job; JOBS], columns: &mut Lent<'_>, station: u32) -> Answer
     ensures same { SameColumns columns.old columns.new }
     ensures leaves { (out : List ℕ) → outcome (stepped result jobs.new) (lent columns.new) out ≡ crash (lent columns.old) jobs.old out station }
