@@ -1,22 +1,43 @@
 // OPEN, and what COMMIT adds to a copy's value.
-ghost use Rattle.std.specs.Prelude.{◌≡◌, ◌-◌, ◌+◌, ◌<◌, ◌≤◌, false, ltb, length};
-ghost use Rattle.words.specs.Numbers.{station_count, series_count, place_count};
+ghost use Rattle.std.specs.Prelude.{◌≡◌, ◌-◌, ◌+◌, ltb};
 ghost use Rattle.copies.specs.Columns.{lent, SameColumns};
-ghost use Rattle.copies.specs.Calls.{outcome, bad_copy, short_opener, open_series, open_in, raise, raise_in};
+ghost use Rattle.copies.specs.Calls.{outcome, short_opener, open_series, raise};
 
 use crate::Lent;
 use crate::checks::{bad_copy, bad_opening};
 use words::{Answer, EXCLUSIVE, GREATEST_SERIAL, PLACES, Refusal, SERIES, STATIONS, Serial, VOID};
 
-// OPEN where refusals 1 and 3 are not given.
-#[tactic(auto, using(crate::proofs::Guards::guards), unfolding(crate::specs::Steps::opened, crate::specs::Calls::bad_copy, crate::specs::Calls::short_opener, crate::specs::Calls::open_in))]
-fn open_in(columns: &mut Lent<'_>, series: u32, first: Serial, last: Serial, station: u32) -> Answer
-    requires long { short_opener (lent columns.old) ≡ false }
-    requires there { bad_copy series station ≡ false }
+// Whether a column of OPEN is short.
+#[tactic(auto, using(words::proofs::Laws::flag_or), unfolding(crate::specs::Calls::short_opener))]
+fn short_opener(columns: &Lent<'_>) -> bool
+    ensures { result ≡ short_opener (lent columns.now) }
+{
+    (columns.firsts.len() < SERIES)
+        | (columns.lasts.len() < SERIES)
+        | (columns.kinds.len() < PLACES)
+        | (columns.values.len() < PLACES)
+        | (columns.up.len() < STATIONS)
+}
+
+// 1 OPEN: exclusive at the station, void elsewhere, all values the first number.
+#[tactic(auto, using(crate::proofs::Guards::chain), unfolding(crate::specs::Calls::open_series, crate::specs::Calls::open_in, crate::specs::Calls::short_opener, crate::specs::Calls::bad_opening, crate::specs::Calls::bad_copy, crate::specs::Steps::opened, words::specs::Tests::refuse_if, words::specs::Tests::non))]
+pub fn open_series(
+    columns: &mut Lent<'_>,
+    series: u32,
+    first: Serial,
+    last: Serial,
+    station: u32,
+) -> Answer
     ensures same { SameColumns columns.old columns.new }
     ensures leaves { outcome result (lent columns.new)
-        ≡ open_in (lent columns.old) series first last station }
+        ≡ open_series (lent columns.old) series first last station }
 {
+    if short_opener(columns) {
+        return Err(Refusal::Short);
+    }
+    if bad_opening(series, first, last, station) {
+        return Err(Refusal::BadEvent);
+    }
     if columns.firsts[series as usize] != 0 {
         return Err(Refusal::Taken);
     }
@@ -32,33 +53,6 @@ fn open_in(columns: &mut Lent<'_>, series: u32, first: Serial, last: Serial, sta
     Ok(0)
 }
 
-// 1 OPEN: exclusive at the station, void elsewhere, all values the first number.
-#[tactic(auto, using(crate::proofs::Guards::guards), unfolding(crate::specs::Calls::short_opener, crate::specs::Calls::bad_opening, crate::specs::Calls::open_series))]
-pub fn open_series(
-    columns: &mut Lent<'_>,
-    series: u32,
-    first: Serial,
-    last: Serial,
-    station: u32,
-) -> Answer
-    ensures same { SameColumns columns.old columns.new }
-    ensures leaves { outcome result (lent columns.new)
-        ≡ open_series (lent columns.old) series first last station }
-{
-    if (columns.firsts.len() < SERIES)
-        | (columns.lasts.len() < SERIES)
-        | (columns.kinds.len() < PLACES)
-        | (columns.values.len() < PLACES)
-        | (columns.up.len() < STATIONS)
-    {
-        return Err(Refusal::Short);
-    }
-    if bad_opening(series, first, last, station) {
-        return Err(Refusal::BadEvent);
-    }
-    open_in(columns, series, first, last, station)
-}
-
 // Whether a count is above last + 1 - value, which is 0 where the value is above last + 1.
 pub fn is_beyond(last: Serial, value: Serial, count: Serial) -> bool
     ensures { result ≡ ltb (last + 1 - value) count }
@@ -70,28 +64,8 @@ pub fn is_beyond(last: Serial, value: Serial, count: Serial) -> bool
     end - (value as u64) < count as u64
 }
 
-// A committed count where refusals 1 and 3 are not given.
-#[tactic(auto, using(crate::proofs::Guards::guards), unfolding(crate::specs::Steps::raised, crate::specs::Calls::raise_in))]
-fn raise_in(columns: &mut Lent<'_>, series: u32, station: u32, count: Serial) -> Answer
-    requires { (series_count ≤ length columns.old.lasts.now) × (place_count ≤ length columns.old.values.now) × (series < series_count) × (station < station_count) }
-    ensures same { SameColumns columns.old columns.new }
-    ensures leaves { outcome result (lent columns.new)
-        ≡ raise_in (lent columns.old) series station count }
-{
-    let at = series as usize * STATIONS + station as usize;
-    let value = columns.values[at];
-    if is_beyond(columns.lasts[series as usize], value, count) {
-        return Err(Refusal::Range);
-    }
-    if GREATEST_SERIAL as u64 + 1 < value as u64 + count as u64 {
-        return Err(Refusal::Range);
-    }
-    columns.values[at] = value + count;
-    Ok(0)
-}
-
 // COMMIT's share: a drawn count is added to the copy's value, unless the sum would pass last + 1 or the greatest last number + 1.
-#[tactic(auto, using(crate::proofs::Guards::guards), unfolding(crate::specs::Calls::bad_copy, crate::specs::Calls::raise))]
+#[tactic(auto, using(crate::proofs::Guards::chain), unfolding(crate::specs::Calls::raise, crate::specs::Calls::raise_in, crate::specs::Calls::bad_copy, crate::specs::Steps::raised, words::specs::Tests::refuse_if))]
 pub fn raise(columns: &mut Lent<'_>, series: u32, station: u32, count: Serial) -> Answer
     ensures same { SameColumns columns.old columns.new }
     ensures leaves { outcome result (lent columns.new)
@@ -103,5 +77,14 @@ pub fn raise(columns: &mut Lent<'_>, series: u32, station: u32, count: Serial) -
     if bad_copy(series, station) {
         return Err(Refusal::BadEvent);
     }
-    raise_in(columns, series, station, count)
+    let at = series as usize * STATIONS + station as usize;
+    let value = columns.values[at];
+    if is_beyond(columns.lasts[series as usize], value, count) {
+        return Err(Refusal::Range);
+    }
+    if GREATEST_SERIAL as u64 + 1 < value as u64 + count as u64 {
+        return Err(Refusal::Range);
+    }
+    columns.values[at] = value + count;
+    Ok(0)
 }

@@ -1,11 +1,11 @@
 // CRASH and RESTART: a station's mark.
-#![tactic(auto, using(crate::proofs::Guards::guards), unfolding(crate::specs::Steps::marked, crate::specs::Calls::crash, crate::specs::Calls::restart, crate::specs::Calls::restart_in))]
+#![tactic(auto, using(crate::proofs::Guards::chain), unfolding(crate::specs::Steps::marked, crate::specs::Calls::crash, crate::specs::Calls::restart, crate::specs::Calls::restart_in, words::specs::Tests::refuse_if, words::specs::Tests::non))]
 
 ghost use Rattle.std.specs.Prelude.{◌≡◌, ◌<◌, ◌≤◌, length};
 ghost use Rattle.words.specs.Numbers.{station_count, place_count};
 ghost use Rattle.copies.specs.Columns.{lent, SameColumns};
 ghost use Rattle.copies.specs.Steps.{held_count};
-ghost use Rattle.copies.specs.Calls.{outcome, crash, restart, restart_in};
+ghost use Rattle.copies.specs.Calls.{outcome, crash, restart};
 
 use crate::Lent;
 use crate::read::if_held;
@@ -43,20 +43,6 @@ fn held_count(columns: &Lent<'_>, station: u32) -> u32
     count
 }
 
-// RESTART where refusals 1 and 3 are not given.
-fn restart_in(columns: &mut Lent<'_>, station: u32) -> Answer
-    requires { (place_count ≤ length columns.old.kinds.now) × (station_count ≤ length columns.old.up.now) × (station < station_count) }
-    ensures same { SameColumns columns.old columns.new }
-    ensures leaves { outcome result (lent columns.new)
-        ≡ restart_in (lent columns.old) station }
-{
-    if columns.up[station as usize] == 1 {
-        return Err(Refusal::Up);
-    }
-    columns.up[station as usize] = 1;
-    Ok(held_count(columns, station))
-}
-
 // 17 RESTART: the station is up; the value is the number of its copies that are not void.
 pub fn restart(columns: &mut Lent<'_>, station: u32) -> Answer
     ensures same { SameColumns columns.old columns.new }
@@ -69,5 +55,9 @@ pub fn restart(columns: &mut Lent<'_>, station: u32) -> Answer
     if STATIONS <= station as usize {
         return Err(Refusal::BadEvent);
     }
-    restart_in(columns, station)
+    if columns.up[station as usize] == 1 {
+        return Err(Refusal::Up);
+    }
+    columns.up[station as usize] = 1;
+    Ok(held_count(columns, station))
 }

@@ -7,7 +7,7 @@ ghost use Rattle.copies.specs.Steps.{other_share, under_way};
 ghost use Rattle.copies.specs.Calls.{outcome, bad_copy, short_holder, short_promoter, demote, drop, promote};
 
 use crate::Lent;
-use crate::checks::bad_copy;
+use crate::checks::{bad_copy, copy_of_kind};
 use crate::read::is_undelivered;
 use words::{Answer, EXCLUSIVE, PLACES, RECEIVED, Refusal, SERIES, SHARE, STATIONS, VOID};
 
@@ -32,19 +32,7 @@ pub fn demote(columns: &mut Lent<'_>, free: bool, series: u32, station: u32) -> 
     if bad_copy(series, station) {
         return Err(Refusal::BadEvent);
     }
-    if columns.firsts[series as usize] == 0 {
-        return Err(Refusal::None);
-    }
-    if columns.up[station as usize] != 1 {
-        return Err(Refusal::Down);
-    }
-    let at = series as usize * STATIONS + station as usize;
-    if columns.kinds[at] != EXCLUSIVE {
-        return Err(Refusal::Copy);
-    }
-    if !free {
-        return Err(Refusal::Locked);
-    }
+    let at = copy_of_kind(columns, free, series, station, EXCLUSIVE)?;
     columns.kinds[at] = SHARE;
     Ok(0)
 }
@@ -78,19 +66,7 @@ pub fn drop(columns: &mut Lent<'_>, free: bool, series: u32, station: u32) -> An
     if bad_copy(series, station) {
         return Err(Refusal::BadEvent);
     }
-    if columns.firsts[series as usize] == 0 {
-        return Err(Refusal::None);
-    }
-    if columns.up[station as usize] != 1 {
-        return Err(Refusal::Down);
-    }
-    let at = series as usize * STATIONS + station as usize;
-    if columns.kinds[at] != SHARE {
-        return Err(Refusal::Copy);
-    }
-    if !free {
-        return Err(Refusal::Locked);
-    }
+    let at = copy_of_kind(columns, free, series, station, SHARE)?;
     if !other_share(columns, series, station) {
         return Err(Refusal::Others);
     }
@@ -151,19 +127,7 @@ pub fn promote(columns: &mut Lent<'_>, free: bool, series: u32, station: u32) ->
     if bad_copy(series, station) {
         return Err(Refusal::BadEvent);
     }
-    if columns.firsts[series as usize] == 0 {
-        return Err(Refusal::None);
-    }
-    if columns.up[station as usize] != 1 {
-        return Err(Refusal::Down);
-    }
-    let at = series as usize * STATIONS + station as usize;
-    if columns.kinds[at] != SHARE {
-        return Err(Refusal::Copy);
-    }
-    if !free {
-        return Err(Refusal::Locked);
-    }
+    let at = copy_of_kind(columns, free, series, station, SHARE)?;
     if other_share(columns, series, station) | under_way(columns, series) {
         return Err(Refusal::Others);
     }

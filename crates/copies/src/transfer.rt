@@ -1,13 +1,14 @@
 // SEND, SHARE, GRANT and ACK: a token goes from station to station by a Release, a message and an acknowledgment.
-ghost use Rattle.std.specs.Prelude.{◌≡◌, ◌<◌, ◌≤◌, length};
+ghost use Rattle.std.specs.Prelude.{◌≡◌, ◌+◌, ◌<◌, ◌≤◌, length};
+ghost use Rattle.words.specs.declared.Refusal.TheVariants.{Wait, Spent};
 ghost use Rattle.words.specs.Numbers.{station_count, series_count, place_count};
 ghost use Rattle.copies.specs.Columns.{lent, SameColumns};
-ghost use Rattle.copies.specs.Tables.{series_at};
-ghost use Rattle.copies.specs.Steps.{matches};
-ghost use Rattle.copies.specs.Calls.{outcome, bad_transfer, bad_message, short_sender, short_receiver, short_source, send, send_share, grant, ack};
+ghost use Rattle.copies.specs.Tables.{series_at, sent_count, stands};
+ghost use Rattle.copies.specs.Steps.{is_spent, matches, released};
+ghost use Rattle.copies.specs.Calls.{outcome, refuse, done, bad_transfer, bad_message, short_sender, short_receiver, short_source, send, send_share, grant, ack};
 
 use crate::Lent;
-use crate::checks::{bad_message, bad_transfer};
+use crate::checks::{bad_message, bad_transfer, copy_of_kind};
 use words::{
     Answer, EXCLUSIVE, GREATEST_SENT, PLACES, RECEIVED, Refusal, SERIES, SHARE, STATIONS, VOID,
 };
@@ -27,8 +28,39 @@ fn short_sender(columns: &Lent<'_>) -> bool
         | (columns.up.len() < STATIONS)
 }
 
+// The next transfer of a copy: its sent count is raised, and a Release of the kind takes its value.
+#[tactic(auto, using(crate::proofs::Guards::chain), unfolding(crate::specs::Steps::released, crate::specs::Steps::is_spent, words::specs::Tests::refuse_if, words::specs::Tests::non))]
+fn release(columns: &mut Lent<'_>, series: u32, from: u32, to: u32, kind: u32) -> Answer
+    requires values { place_count ≤ length columns.old.values.now }
+    requires sent { place_count ≤ length columns.old.sent.now }
+    requires to { place_count ≤ length columns.old.relto.now }
+    requires kind { place_count ≤ length columns.old.relkind.now }
+    requires value { place_count ≤ length columns.old.relvalue.now }
+    requires there { (series < series_count) × (from < station_count) }
+    ensures same { SameColumns columns.old columns.new }
+    ensures leaves { outcome result (lent columns.new) ≡
+        refuse (lent columns.old) Wait (stands (series_at (lent columns.old) series) from)
+        (refuse (lent columns.old) Spent (is_spent (series_at (lent columns.old) series) from)
+        (done (sent_count (series_at (lent columns.old) series) from + 1)
+        (released (lent columns.old) series from to kind))) }
+{
+    let at = series as usize * STATIONS + from as usize;
+    if columns.relkind[at] != 0 {
+        return Err(Refusal::Wait);
+    }
+    let number = columns.sent[at];
+    if GREATEST_SENT <= number {
+        return Err(Refusal::Spent);
+    }
+    columns.sent[at] = number + 1;
+    columns.relto[at] = to;
+    columns.relkind[at] = kind;
+    columns.relvalue[at] = columns.values[at];
+    Ok(number + 1)
+}
+
 // 9 SEND: a free exclusive copy becomes void, and a Release of kind 2 takes its value.
-#[tactic(auto, using(crate::proofs::Guards::chain), unfolding(crate::specs::Calls::send, crate::specs::Calls::send_in, crate::specs::Calls::short_sender, crate::specs::Calls::bad_transfer, crate::specs::Steps::sent_off, crate::specs::Steps::released, crate::specs::Steps::is_spent, words::specs::Tests::refuse_if, words::specs::Tests::non))]
+#[tactic(auto, using(crate::proofs::Guards::chain), unfolding(crate::specs::Calls::send, crate::specs::Calls::send_in, crate::specs::Calls::short_sender, crate::specs::Calls::bad_transfer, crate::specs::Steps::sent_off, crate::specs::Steps::released, words::specs::Tests::refuse_if, words::specs::Tests::non))]
 pub fn send(columns: &mut Lent<'_>, free: bool, series: u32, from: u32, to: u32) -> Answer
     ensures same { SameColumns columns.old columns.new }
     ensures leaves { outcome result (lent columns.new)
@@ -40,36 +72,14 @@ pub fn send(columns: &mut Lent<'_>, free: bool, series: u32, from: u32, to: u32)
     if bad_transfer(series, from, to) {
         return Err(Refusal::BadEvent);
     }
-    if columns.firsts[series as usize] == 0 {
-        return Err(Refusal::None);
-    }
-    if columns.up[from as usize] != 1 {
-        return Err(Refusal::Down);
-    }
-    let at = series as usize * STATIONS + from as usize;
-    if columns.kinds[at] != EXCLUSIVE {
-        return Err(Refusal::Copy);
-    }
-    if !free {
-        return Err(Refusal::Locked);
-    }
-    if columns.relkind[at] != 0 {
-        return Err(Refusal::Wait);
-    }
-    let number = columns.sent[at];
-    if GREATEST_SENT <= number {
-        return Err(Refusal::Spent);
-    }
+    let at = copy_of_kind(columns, free, series, from, EXCLUSIVE)?;
+    let number = release(columns, series, from, to, EXCLUSIVE)?;
     columns.kinds[at] = VOID;
-    columns.sent[at] = number + 1;
-    columns.relto[at] = to;
-    columns.relkind[at] = EXCLUSIVE;
-    columns.relvalue[at] = columns.values[at];
-    Ok(number + 1)
+    Ok(number)
 }
 
 // 11 SHARE: from keeps its share copy, and a Release of kind 1 takes its value.
-#[tactic(auto, using(crate::proofs::Guards::chain), unfolding(crate::specs::Calls::send_share, crate::specs::Calls::share_in, crate::specs::Calls::short_sender, crate::specs::Calls::bad_transfer, crate::specs::Steps::shared, crate::specs::Steps::released, crate::specs::Steps::is_spent, words::specs::Tests::refuse_if, words::specs::Tests::non))]
+#[tactic(auto, using(crate::proofs::Guards::chain), unfolding(crate::specs::Calls::send_share, crate::specs::Calls::share_in, crate::specs::Calls::short_sender, crate::specs::Calls::bad_transfer, crate::specs::Steps::shared, words::specs::Tests::refuse_if, words::specs::Tests::non))]
 pub fn share(columns: &mut Lent<'_>, series: u32, from: u32, to: u32) -> Answer
     ensures same { SameColumns columns.old columns.new }
     ensures leaves { outcome result (lent columns.new)
@@ -81,28 +91,8 @@ pub fn share(columns: &mut Lent<'_>, series: u32, from: u32, to: u32) -> Answer
     if bad_transfer(series, from, to) {
         return Err(Refusal::BadEvent);
     }
-    if columns.firsts[series as usize] == 0 {
-        return Err(Refusal::None);
-    }
-    if columns.up[from as usize] != 1 {
-        return Err(Refusal::Down);
-    }
-    let at = series as usize * STATIONS + from as usize;
-    if columns.kinds[at] != SHARE {
-        return Err(Refusal::Copy);
-    }
-    if columns.relkind[at] != 0 {
-        return Err(Refusal::Wait);
-    }
-    let number = columns.sent[at];
-    if GREATEST_SENT <= number {
-        return Err(Refusal::Spent);
-    }
-    columns.sent[at] = number + 1;
-    columns.relto[at] = to;
-    columns.relkind[at] = SHARE;
-    columns.relvalue[at] = columns.values[at];
-    Ok(number + 1)
+    copy_of_kind(columns, true, series, from, SHARE)?;
+    release(columns, series, from, to, SHARE)
 }
 
 // Whether a column of GRANT is short.
