@@ -6,7 +6,6 @@ ghost use Rattle.rulebook.specs.Steps.{step_of};
 ghost use Rattle.rulebook.specs.Around.{empty_of, holders_of};
 ghost use Rattle.abi.specs.Calls.{left, left_of, made, made_of, holders_said_of};
 
-use crate::telling::{holders_said, said};
 use crate::{HoldersSaid, Said};
 use copies::{Lent, Seen};
 use jobs::Job;
@@ -43,7 +42,7 @@ pub extern "C" fn druvisha_empty(
         received,
         up,
     };
-    said(plant::empty(jobs, &mut columns))
+    Said::from(plant::empty(jobs, &mut columns))
 }
 
 // The step: an event, the tables, the output.
@@ -78,7 +77,7 @@ pub extern "C" fn druvisha_step(
         received,
         up,
     };
-    said(plant::step(jobs, &mut columns, out, event))
+    Said::from(plant::step(jobs, &mut columns, out, event))
 }
 
 // The holders of a series.
@@ -111,5 +110,5 @@ pub extern "C" fn druvisha_holders(
         received,
         up,
     };
-    holders_said(plant::holders(jobs, &columns, series))
+    HoldersSaid::from(plant::holders(jobs, &columns, series))
 }

@@ -6,25 +6,28 @@ use crate::{HoldersSaid, Said};
 use rulebook::Holders;
 use words::{Answer, code, value};
 
-// An answer by its number and its value.
-pub fn said(answer: Answer) -> Said
-    ensures { result ≡ said_of answer }
-{
-    Said {
-        code: code(answer),
-        value: value(answer),
+impl From<Answer> for Said {
+    ghost from_gives = { λ answer said. said ≡ said_of answer };
+
+    // An answer by its number and its value.
+    fn from(answer: Answer) -> Said {
+        Said {
+            code: code(answer),
+            value: value(answer),
+        }
     }
 }
 
-// The holders of a series, the answer by its number.
-pub fn holders_said(holders: Holders) -> HoldersSaid
-    ensures { result ≡ holders_said_of holders }
-{
-    let answer = holders.answer;
-    HoldersSaid {
-        code: code(answer),
-        set: holders.set as u32,
-        count: holders.count,
-        lowest: holders.lowest,
+impl From<Holders> for HoldersSaid {
+    ghost from_gives = { λ holders said. said ≡ holders_said_of holders };
+
+    // The holders of a series, the answer by its number.
+    fn from(holders: Holders) -> HoldersSaid {
+        HoldersSaid {
+            code: code(holders.answer),
+            set: u32::from(holders.set),
+            count: holders.count,
+            lowest: holders.lowest,
+        }
     }
 }

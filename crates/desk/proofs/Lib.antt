@@ -1,3 +1,4 @@
+pub mod SameDesk
 pub mod Walks
 pub mod Still
 pub mod Ways

@@ -9,13 +9,7 @@ use Rattle.desk.specs.Once.{Left, Given, EachOnce}
 
 -- what `feed` left, from the call
 abbrev left_of : Call → Left
-left_of c =
-    record {
-      fed = record { used = c.used; written = c.written; number = c.desk.number };
-      plant = c.desk.plant;
-      out = c.desk.out;
-      bytes = c.bytes;
-    }
+left_of c = record { fed = record { used = c.used; written = c.written }; desk = c.desk; bytes = c.bytes }
 
 -- two equations
 given_once : {A : Type 0} (back : A) (bytes : List ℕ) → OneResult (λ (x : Given A). (x.back ≡ back) × (x.bytes ≡ bytes))
@@ -29,7 +23,7 @@ given_once back bytes x y p q =
 
 pub each_once : EachOnce
 each_once = (
-  λ d t bytes. one_result (λ (x : Left). given x.fed x.plant x.out x.bytes) left_of (λ x. refl) (called d t bytes),
+  λ d t bytes. one_result (λ (x : Left). given x.fed x.desk x.bytes) left_of (λ x. refl) (called d t bytes),
   λ bytes from end. given_once _ _,
   λ says leaves. given_once says leaves,
 )

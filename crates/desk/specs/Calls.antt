@@ -2,7 +2,6 @@
 -- Assumes nothing.
 use Rattle.std.specs.Prelude.{ℕ, ◌+◌, ◌-◌, Bool, cond, ◌&&◌, List, [], ◌∷◌, ◌++◌, leb, ltb, eqb, length, take, drop, Option, Some, None}
 use Rattle.std.proofs.lemmas.List.Edits.{sets}
-use Rattle.rulebook.specs.Tables.{Plant}
 use Rattle.digits.specs.Bytes.{LF}
 use Rattle.lines.specs.declared.Line.{Line}
 use Rattle.lines.specs.Texts.{line_at}
@@ -10,7 +9,7 @@ use Rattle.lines.specs.EventLines.{longest_line}
 use Rattle.lines.specs.Printed.{reply, answer_room}
 use Rattle.desk.specs.declared.Fed.{Fed}
 use Rattle.desk.specs.declared.feeding.Judged.{Judged}
-use Rattle.desk.specs.Desk.{Desk, desk, Heard, says, after}
+use Rattle.desk.specs.Desk.{Desk, Heard, says, after}
 
 -- line numbers go on up to this one, so that the number after it still fits 64 bits
 abbrev pub greatest_line : ℕ
@@ -56,9 +55,9 @@ pub record Call : Type 0 where
   pub desk : Desk
   pub bytes : List ℕ
 
--- what it gave back, with the tables, the output and the bytes that it left
-abbrev pub given : Fed → Plant → List ℕ → List ℕ → Call
-given f p out bytes = record { used = f.used; written = f.written; desk = desk f.number p out; bytes = bytes }
+-- what it gave back, with the desk and the bytes that it left
+abbrev pub given : Fed → Desk → List ℕ → Call
+given f d bytes = record { used = f.used; written = f.written; desk = d; bytes = bytes }
 
 -- the answers stand in the bytes from their start on
 abbrev pub writes : Walked → List ℕ → Call
@@ -70,8 +69,8 @@ called d t bytes = writes (walked (length bytes) d t) bytes
 
 -- ---- what its parts give and leave
 -- what a line came to
-abbrev pub judged : Judged → Plant → List ℕ → Heard
-judged r p out = record { reply = reply r.answer (take r.shown out); plant = p; out = out }
+abbrev pub judged : Judged → Desk → Heard
+judged r d = record { reply = reply r.answer (take r.shown d.out); plant = d.plant; out = d.out }
 
 -- The position after an answer line, the desk afterwards, and the lent bytes.
 pub record Put : Type 0 where
@@ -80,8 +79,8 @@ pub record Put : Type 0 where
   pub bytes : List ℕ
 
 -- what the answering of one line gave and left
-abbrev pub answered : ℕ → ℕ → Plant → List ℕ → List ℕ → Put
-answered at n p out bytes = record { at = at; desk = desk (n + 1) p out; bytes = bytes }
+abbrev pub answered : ℕ → Desk → List ℕ → Put
+answered at d bytes = record { at = at; desk = d; bytes = bytes }
 
 -- what it is to give and leave
 unfoldable pub put : Desk → List ℕ → List ℕ → ℕ → Put

@@ -1,12 +1,14 @@
 -- Where a desk stands, and what one line does to it.
 -- Assumes nothing.
-use Rattle.std.specs.Prelude.{ℕ, ◌+◌, List, Option, Some, None}
+use Rattle.std.specs.Prelude.{ℕ, ◌≡◌, ◌+◌, List, Option, Some, None}
+use Rattle.copies.specs.Columns.{lent, SameColumns}
 use Rattle.rulebook.specs.declared.Event.{Event}
-use Rattle.rulebook.specs.Tables.{Plant}
+use Rattle.rulebook.specs.Tables.{Plant, plant}
 use Rattle.rulebook.specs.Steps.{Outcome, step_of}
 use Rattle.rulebook.specs.Run.{Reply, reply_to}
 use Rattle.lines.specs.EventLines.{event_line}
 use Rattle.lines.specs.Printed.{answer_text}
+use Rattle.desk.specs.declared.OpenDesk.{OpenDesk}
 use Rattle.desk.specs.Answers.{bad_reply}
 
 -- The next line's number, the plant's tables, and the output that a COMMIT shows its draws in.
@@ -18,6 +20,14 @@ pub record Desk : Type 0 where
 -- the desk with these three
 abbrev pub desk : ℕ → Plant → List ℕ → Desk
 desk n p out = record { number = n; plant = p; out = out }
+
+-- where an open desk stands
+abbrev pub desk_of : OpenDesk → Desk
+desk_of d = desk d.number (plant (lent d.columns) d.jobs) d.row.now
+
+-- its columns and its output are still those that were lent: none was put in the place of another
+abbrev pub SameDesk : OpenDesk → OpenDesk → Type 0
+SameDesk before after = SameColumns before.columns after.columns × (after.row.ghost_name ≡ before.row.ghost_name)
 
 -- What a line comes to: the reply, and the tables and the output afterwards.
 pub record Heard : Type 0 where

@@ -4,16 +4,14 @@
 use Rattle.std.specs.Prelude.{ℕ, ◌≡◌, List, length, Option}
 use Rattle.std.proofs.lemmas.List.Edits.{sets}
 use Rattle.words.specs.Results.{OneResult}
-use Rattle.rulebook.specs.Tables.{Plant}
 use Rattle.desk.specs.declared.Fed.{Fed}
 use Rattle.desk.specs.Desk.{Desk}
 use Rattle.desk.specs.Calls.{given, called, kept}
 
--- What `feed` leaves: what it gives back, the tables, the output and the bytes.
+-- What `feed` leaves: what it gives back, the desk (the next number, the tables, the output) and the bytes.
 pub record Left : Type 0 where
   pub fed : Fed
-  pub plant : Plant
-  pub out : List ℕ
+  pub desk : Desk
   pub bytes : List ℕ
 
 -- What a call leaves that gives something back and writes into bytes.
@@ -23,8 +21,7 @@ pub record Given (A : Type 0) : Type 0 where
 
 -- of `feed`
 abbrev pub FeedOnce : Type 0
-FeedOnce =
-    (d : Desk) (t bytes : List ℕ) → OneResult (λ (x : Left). given x.fed x.plant x.out x.bytes ≡ called d t bytes)
+FeedOnce = (d : Desk) (t bytes : List ℕ) → OneResult (λ (x : Left). given x.fed x.desk x.bytes ≡ called d t bytes)
 
 -- of `keep`
 abbrev pub KeepOnce : Type 0

@@ -1,19 +1,16 @@
 // Answering: a line is read, its event steps, the answer is printed; and so on through the whole lines of a text.
 ghost use Rattle.std.specs.Prelude.{◌≡◌, ◌+◌, ◌*◌, ◌≤◌, cond, eqb, length};
+ghost use Rattle.std.proofs.lemmas.List.Edits.{sets};
 ghost use Rattle.words.specs.Answers.{value_of};
-ghost use Rattle.copies.specs.Columns.{lent, SameColumns};
-ghost use Rattle.rulebook.specs.Tables.{plant};
 ghost use Rattle.rulebook.specs.Events.{COMMIT};
-ghost use Rattle.lines.specs.Printed.{answer_room};
-ghost use Rattle.desk.specs.Desk.{desk, heard};
-ghost use Rattle.desk.specs.Calls.{judged, put, answered, whole_line, given, called};
+ghost use Rattle.lines.specs.Printed.{answer_room, answer_text};
+ghost use Rattle.desk.specs.Desk.{desk_of, SameDesk, heard};
+ghost use Rattle.desk.specs.Calls.{greatest_line, judged, answered, put, whole_line, given, called};
 
-use crate::{Fed, GREATEST_LINE};
-use copies::Lent;
-use jobs::Job;
+use crate::{Fed, GREATEST_LINE, OpenDesk};
 use lines::{ANSWER_ROOM, Line, event_line, line_at, write_answer};
 use rulebook::COMMIT;
-use words::{Answer, JOBS, Refusal, Serial, value};
+use words::{Answer, Refusal, value};
 
 // What a line came to: the answer, and how many numbers of the output it shows.
 #[derive(Clone, Copy)]
@@ -33,9 +30,10 @@ fn shown(kind: u32, answer: Answer) -> usize
 }
 
 // The event that a line says steps; a line that says none is a BAD EVENT.
-fn judge(line: &[u8], jobs: &mut [Job; JOBS], columns: &mut Lent<'_>, row: &mut [Serial]) -> Judged
-    ensures same { SameColumns columns.old columns.new }
-    ensures leaves { judged result (plant (lent columns.new) jobs.new) row.new ≡ heard (plant (lent columns.old) jobs.old) row.old line.now }
+fn judge(desk: &mut OpenDesk<'_>, line: &[u8]) -> Judged
+    ensures same { SameDesk desk.old desk.new }
+    ensures number { desk.new.number ≡ desk.old.number }
+    ensures leaves { judged result (desk_of desk.new) ≡ heard (desk_of desk.old).plant (desk_of desk.old).out line.now }
 {
     let Some(event) = event_line(line) else {
         return Judged {
@@ -43,33 +41,37 @@ fn judge(line: &[u8], jobs: &mut [Job; JOBS], columns: &mut Lent<'_>, row: &mut 
             shown: 0,
         };
     };
-    let answer = machine::step(jobs, columns, row, event);
+    let answer = machine::step(&mut desk.jobs, &mut desk.columns, desk.row, event);
     Judged {
         answer,
         shown: shown(event.kind, answer),
     }
 }
 
-// The answer to a line at a position of out that has room for any; the position after it.
-fn answer(
-    line: &[u8],
-    number: u64,
-    jobs: &mut [Job; JOBS],
-    columns: &mut Lent<'_>,
-    row: &mut [Serial],
-    out: &mut [u8],
-    at: usize,
-) -> usize
+// Writes the answer of the desk's line at a position of out that has room for any; the position after it.
+fn say(desk: &OpenDesk<'_>, said: Judged, out: &mut [u8], at: usize) -> usize
     requires { at + answer_room ≤ length out.old }
-    ensures same { SameColumns columns.old columns.new }
-    ensures leaves { answered result number (plant (lent columns.new) jobs.new) row.new out.new
-        ≡ put (desk number (plant (lent columns.old) jobs.old) row.old) line.now out.old at }
+    ensures position { result ≡ at + length (answer_text desk.now.number (judged said (desk_of desk.now)).reply) }
+    ensures out_after { out.new ≡ sets out.old at (answer_text desk.now.number (judged said (desk_of desk.now)).reply) }
     ensures at_bound { result ≤ at + answer_room }
 {
-    let said = judge(line, jobs, columns, row);
     // no more of the output is shown than there is of it
-    let shown = &row[..said.shown.min(row.len())];
-    write_answer(out, at, number, said.answer, shown).unwrap()
+    let shown = &desk.row[..said.shown.min(desk.row.len())];
+    write_answer(out, at, desk.number, said.answer, shown).unwrap()
+}
+
+// The answer to a line at a position of out that has room for any; the position after it. The next line has the next number.
+fn answer(desk: &mut OpenDesk<'_>, line: &[u8], out: &mut [u8], at: usize) -> usize
+    requires room { at + answer_room ≤ length out.old }
+    requires numbered { desk.old.number ≤ greatest_line }
+    ensures same { SameDesk desk.old desk.new }
+    ensures leaves { answered result (desk_of desk.new) out.new ≡ put (desk_of desk.old) line.now out.old at }
+    ensures at_bound { result ≤ at + answer_room }
+{
+    let said = judge(desk, line);
+    let next = say(desk, said, out, at);
+    desk.number += 1;
+    next
 }
 
 // The line that starts at a position of a text, where it has its LF, there is room for an answer of any length, and the line number isn't
@@ -91,34 +93,22 @@ fn whole_line(text: &[u8], at: usize, room: usize, number: u64) -> Option<Line>
     Some(line)
 }
 
-// Answers the whole lines at the front of a text, the first of which has the number given, into out from its start on, as long as out
-// has room for an answer of any length. The output that a COMMIT writes its draws into is row.
+// Answers the whole lines at the front of a text, the first of which has the desk's number, into out from its start on, as long as out
+// has room for an answer of any length.
 #[tactic(auto, using(crate::proofs::Walks::found_ways))]
-pub fn feed(
-    text: &[u8],
-    number: u64,
-    jobs: &mut [Job; JOBS],
-    columns: &mut Lent<'_>,
-    row: &mut [Serial],
-    out: &mut [u8],
-) -> Fed
-    ensures same { SameColumns columns.old columns.new }
-    ensures leaves { given result (plant (lent columns.new) jobs.new) row.new out.new
-        ≡ called (desk number (plant (lent columns.old) jobs.old) row.old) text.now out.old }
+pub fn feed(desk: &mut OpenDesk<'_>, text: &[u8], out: &mut [u8]) -> Fed
+    ensures same { SameDesk desk.old desk.new }
+    ensures leaves { given result (desk_of desk.new) out.new ≡ called (desk_of desk.old) text.now out.old }
     ensures used_in_bounds { (result.used ≤ length text.now) × (result.written ≤ length out.old) }
 {
     let mut start = 0;
     let mut at = 0;
-    let mut count = number;
-    while let Some(line) = whole_line(text, start, out.len() - at, count) {
-        let said = &text[line.start..line.end];
-        at = answer(said, count, jobs, columns, row, out, at);
-        count += 1;
+    while let Some(line) = whole_line(text, start, out.len() - at, desk.number) {
+        at = answer(desk, &text[line.start..line.end], out, at);
         start = line.next;
     }
     Fed {
         used: start,
         written: at,
-        number: count,
     }
 }

@@ -1,13 +1,12 @@
 -- Laws about a job's lock places. Assumes nothing.
-use Prim.Native.Nat.{ℕ, ◌≤◌}
+use Prim.Native.Nat.{ℕ}
 use native.Mathlib.Omega.{arith}
 use mathlib.Core.Path.{◌≡◌, refl, sym, ap, ◌∙◌}
-use mathlib.Core.Bool.{Bool, true, false, cond}
+use mathlib.Core.Bool.{Bool, true, cond}
 use mathlib.Core.List.{List, map, ◌∷◌}
 use lib.Dec.{eqb, ltb}
-use lib.ListN.{get_or, length, length-map, get_or-eq_default}
-use lib.Seq.{set_out}
-use borrow.Author.Tests.{eq-eqb, ne_eqb}
+use lib.ListN.{get_or, length, length-map}
+use borrow.Author.Tests.{eq-eqb}
 use Rattle.words.specs.Numbers.{lock_count}
 use Rattle.std.specs.Prelude.{Option}
 use Rattle.std.specs.List.{position, position_or_len}
@@ -16,29 +15,16 @@ use Rattle.words.specs.Tests.{non, least_below}
 use Rattle.words.proofs.Laws.{least_front, some_least, some_non}
 use Rattle.jobs.specs.declared.Lock.{Lock}
 use Rattle.jobs.specs.declared.Job.{Job}
-use Rattle.jobs.specs.Job.{no_lock, lock_at, locks_series, lock_place, is_full, new_place, place_found, put_lock}
+use Rattle.jobs.specs.Job.{no_lock, locks_series, lock_place, is_full, new_place, place_found}
 
 -- a place of mode 0 is unused
 pub unused_place : (mode : ℕ) → mode ≡ 0 → non (non (eqb mode 0)) ≡ true
 unfolding non
 unused_place mode e = rw (eq-eqb mode 0 e)
 
--- one of another mode is used
-pub used_place : (mode : ℕ) → (mode ≡ 0 → ⊥) → non (non (eqb mode 0)) ≡ false
-unfolding non
-used_place mode e = rw (ne_eqb mode 0 e)
-
 -- what owning an array of records tells of its length: `search length_mapped` finds it where a job is a parameter
 pub length_mapped : {X Y : Type 0} (f : X → Y) (l : List X) (n : ℕ) → length (map f l) ≡ n → length l ≡ n
 length_mapped f l n e = sym (length-map l f) ∙ e
-
--- nothing is written past the last place
-pub put_out : (b : Job) (i : ℕ) (l : Lock) → length b.locks ≡ lock_count → lock_count ≤ i → b ≡ put_lock b i l
-put_out b i l e h = let past : length b.locks ≤ i = omega arith in rw (set_out b.locks i l past)
-
--- and an unused lock is read there
-pub read_out : (b : Job) (i : ℕ) → length b.locks ≡ lock_count → lock_count ≤ i → no_lock ≡ lock_at b i
-read_out b i e h = let past : length b.locks ≤ i = omega arith in sym (get_or-eq_default b.locks no_lock past)
 
 -- ---- a place that is looked for
 module _ (p : Lock → Bool) where
@@ -49,7 +35,7 @@ module _ (p : Lock → Bool) where
       is_position_or_len (λ (ls : List Lock). least_below (length ls) (λ i. p (get_or ls i no_lock))) p refl
       (λ l ls. least_front (length ls) (λ i. p (get_or (l ∷ ls) i no_lock)) ∙ ap (cond (p l) 0) (omega arith))
 
-  -- and where it is looked for
+  -- and so what a look for it finds
   pub found : (ls : List Lock) (r : Option ℕ) → length ls ≡ lock_count → r ≡ position p ls → r ≡ place_found (least_below lock_count (λ i. p (get_or ls i no_lock)))
   found ls r own e = rw (← own, least_is ls) e
 
@@ -63,5 +49,5 @@ pub found_new : (b : Job) → ltb (new_place b) lock_count ≡ non (is_full b)
 unfolding new_place is_full
 found_new b = some_least lock_count _ _ refl ∙ some_non lock_count _
 
--- what decides the answer of a look for a place, and what stands there where there is none
-pub ruleset places = (found_lock, found_new, put_out, read_out)
+-- whether a place is found
+pub ruleset places = (found_lock, found_new)

@@ -1,27 +1,20 @@
 -- What the proofs of the walk over the slots share: a rule that is broken, or isn't, and what the ranges say. Assumes nothing.
-use Prim.Native.Nat.{ℕ, ◌+◌, ◌<◌, ◌≤◌}
+use Prim.Native.Nat.{ℕ, ◌+◌, ◌<◌}
 use native.Mathlib.Numerals.{add-one}
-use mathlib.Core.Path.{◌≡◌, refl, sym, ◌∙◌}
+use mathlib.Core.Path.{◌≡◌, refl}
 use mathlib.Core.Bool.{Bool, true, false}
 use Rattle.std.specs.Prelude.{Option, Some, None}
 use Rattle.words.specs.declared.Rule.{Rule}
 use Rattle.words.specs.Numbers.{station_count, series_count, lock_count}
-use Rattle.words.specs.Tests.{broken, ◌or_else◌, first_below}
-use Rattle.words.proofs.Laws.{first_none, first_stop}
+use Rattle.words.specs.Tests.{◌or_else◌, first_below}
+use Rattle.words.proofs.Laws.{and_true, broken_yes, broken_no, first_none, first_stop}
+use Rattle.copies.proofs.Guards.{chain}
+use Rattle.copies.proofs.Reading.{read_at}
 use Rattle.jobs.specs.declared.Job.{Job}
 use Rattle.jobs.specs.Job.{lock_at}
 use Rattle.jobs.specs.Whole.{W1_job}
+use Rattle.jobs.proofs.Turns.{turns, if_is}
 use Rattle.jobs.proofs.Reflect.{W1_job_reflects}
-
--- a rule is broken where its test fails
-pub broken_yes : (rule : Rule) (b : Bool) → b ≡ false → broken rule b ≡ Some rule
-unfolding broken
-broken_yes rule b e = rw e
-
--- and not where it holds
-pub broken_no : (rule : Rule) (b : Bool) → b ≡ true → broken rule b ≡ None
-unfolding broken
-broken_no rule b e = rw e
 
 -- the first of two is broken
 pub first_broken : (rule : Rule) (b : Option Rule) → (Some rule or_else b) ≡ Some rule
@@ -47,3 +40,6 @@ pub ruleset walked = (first_none, first_more, first_stop, decided)
 -- past W1, the job's station is one, and each lock's series
 pub in_ranges : (b : Job) → W1_job b ≡ true → (b.station < station_count) × ((i : ℕ) → i < lock_count → (lock_at b i).series < series_count)
 in_ranges b e = let w = (W1_job_reflects b).0 e in (w.of_station, λ i l. (w.of_lock i l).of_series)
+
+-- all that the walk's proofs cite
+pub ruleset walking = (turns, if_is, chain, and_true, read_at, walked, in_ranges)

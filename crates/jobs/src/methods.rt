@@ -7,7 +7,7 @@ ghost use Rattle.jobs.specs.Job.{no_lock, no_job, job_open, job_there, locks_ser
 ghost use Rattle.jobs.specs.Slots.{locks_copy};
 
 use crate::{Job, Lock};
-use words::{LOCKS, Serial};
+use words::Serial;
 
 impl Lock {
     // An unused lock place.

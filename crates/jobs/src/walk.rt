@@ -1,11 +1,14 @@
 // The walk over the sixteen slots that finds the first broken rule of the jobs: W1, W4 or W5.
+#![tactic(auto, using(crate::proofs::Ways::walking), unfolding(crate::specs::Whole::W1_lock, crate::specs::Whole::W1_job, crate::specs::Whole::W4_exclusive, crate::specs::Whole::W4_share, crate::specs::Whole::W4_differs, crate::specs::Whole::W4_lock, crate::specs::Whole::W4_locks, crate::specs::Whole::meets, crate::specs::Whole::W4_alone, crate::specs::Whole::W4_job, crate::specs::Whole::W5_lock, crate::specs::Whole::W5_job, crate::specs::FirstBroken::broken_job, crate::specs::FirstBroken::first_broken_job, crate::specs::FirstBroken::short_for_jobs, crate::specs::FirstBroken::check_jobs, copies::specs::FirstBroken::found_by, copies::specs::Calls::bad_copy, copies::specs::Calls::beyond, words::specs::Tests::non))]
+
 ghost use Rattle.std.specs.Prelude.{◌≡◌, List, cond, ℕ, false, ◌<◌, eqb};
 ghost use Rattle.words.specs.Numbers.{station_count, series_count, job_count, lock_count};
 ghost use Rattle.words.specs.Tests.{non, ◌and◌, all_below};
 ghost use Rattle.copies.specs.Columns.{seen};
+ghost use Rattle.copies.specs.Tables.{series_at};
 ghost use Rattle.jobs.specs.Job.{lock_at, is_used};
 ghost use Rattle.jobs.specs.Slots.{job_at};
-ghost use Rattle.jobs.specs.Whole.{W1_lock, W1_job, W4_differs, W4_lock, W4_locks, meets, W4_alone, W4_job, W5_lock, W5_job};
+ghost use Rattle.jobs.specs.Whole.{W1_lock, W1_job, W4_exclusive, W4_share, W4_differs, W4_lock, W4_locks, meets, W4_alone, W4_job, W5_lock, W5_job};
 ghost use Rattle.jobs.specs.FirstBroken.{broken_job, first_broken_job, short_for_jobs, check_jobs};
 
 use crate::{Job, Lock};
@@ -13,7 +16,6 @@ use copies::{Seen, beyond, is_open, is_up, kind};
 use words::{EXCLUSIVE, Flaw, GREATEST_SERIAL, JOBS, LOCKS, PLACES, Rule, SERIES, SHARE, STATIONS};
 
 // W1 of a lock place.
-#[tactic(auto, using(copies::proofs::Guards::chain), unfolding(crate::specs::Whole::W1_lock))]
 fn lock_in_range(lock: Lock) -> bool
     ensures { result ≡ W1_lock lock }
 {
@@ -21,7 +23,6 @@ fn lock_in_range(lock: Lock) -> bool
 }
 
 // W1 of a job slot.
-#[tactic(auto, using(crate::proofs::Turns::turns, copies::proofs::Guards::chain), unfolding(crate::specs::Whole::W1_job))]
 fn in_range(job: Job) -> bool
     ensures { result ≡ W1_job job }
 {
@@ -33,7 +34,6 @@ fn in_range(job: Job) -> bool
 }
 
 // W4: whether no earlier lock of the job is on the series of place i.
-#[tactic(auto, using(crate::proofs::Turns::turns), unfolding(crate::specs::Whole::W4_differs, words::specs::Tests::non))]
 pub fn differs(job: Job, i: usize) -> bool
     requires { i < lock_count }
     ensures { result ≡ W4_differs job i }
@@ -46,30 +46,41 @@ pub fn differs(job: Job, i: usize) -> bool
     all
 }
 
+// W4 of an exclusive lock at a station, by itself.
+fn exclusive_fine(lock: Lock, columns: &Seen<'_>, station: u32) -> bool
+    requires { (short_for_jobs (seen columns.now) ≡ false) × (station < station_count) × (lock.series < series_count) }
+    ensures { result ≡ W4_exclusive lock (series_at (seen columns.now) lock.series) station }
+{
+    (kind(columns, lock.series, station) == EXCLUSIVE)
+        & !beyond(columns, lock.series, station, lock.drawn)
+}
+
+// W4 of a share lock at a station, by itself.
+fn share_fine(lock: Lock, columns: &Seen<'_>, station: u32) -> bool
+    requires { (short_for_jobs (seen columns.now) ≡ false) × (station < station_count) × (lock.series < series_count) }
+    ensures { result ≡ W4_share lock (series_at (seen columns.now) lock.series) station }
+{
+    (kind(columns, lock.series, station) == SHARE) & (lock.drawn == 0)
+}
+
 // W4 of lock place i by itself.
-#[tactic(auto, using(copies::proofs::Guards::chain, crate::proofs::Turns::if_is, copies::proofs::Reading::read_at, words::proofs::Laws::and_true), unfolding(crate::specs::Whole::W4_lock, crate::specs::Whole::W4_exclusive, crate::specs::Whole::W4_share, crate::specs::FirstBroken::short_for_jobs, copies::specs::Calls::bad_copy, copies::specs::Calls::beyond, words::specs::Tests::non))]
 fn lock_fine(job: Job, columns: &Seen<'_>, i: usize) -> bool
     requires { (short_for_jobs (seen columns.now) ≡ false) × (job.station < station_count) × ((lock_at job i).series < series_count) × (i < lock_count) }
     ensures { result ≡ W4_lock (seen columns.now) job i }
 {
     let lock = job.locks[i];
-    if lock.mode == 0 {
+    if !lock.is_used() {
         return true;
     }
     let fine = is_open(columns, lock.series) & differs(job, i);
-    let here = kind(columns, lock.series, job.station);
-    if lock.mode == EXCLUSIVE {
-        let within = !beyond(columns, lock.series, job.station, lock.drawn);
-        return fine & ((here == EXCLUSIVE) & within);
+    match lock.mode {
+        EXCLUSIVE => fine & exclusive_fine(lock, columns, job.station),
+        SHARE => fine & share_fine(lock, columns, job.station),
+        _ => fine,
     }
-    if lock.mode == SHARE {
-        return fine & ((here == SHARE) & (lock.drawn == 0));
-    }
-    fine
 }
 
 // W4 of the four lock places.
-#[tactic(auto, using(crate::proofs::Turns::turns), unfolding(crate::specs::Whole::W4_locks))]
 fn locks_fine(job: Job, columns: &Seen<'_>) -> bool
     requires { (short_for_jobs (seen columns.now) ≡ false) × (job.station < station_count) × ((i : ℕ) → i < lock_count → (lock_at job i).series < series_count) }
     ensures { result ≡ W4_locks (seen columns.now) job }
@@ -82,7 +93,6 @@ fn locks_fine(job: Job, columns: &Seen<'_>) -> bool
 }
 
 // W4: whether another job locks a copy that the job locks exclusively.
-#[tactic(auto, using(crate::proofs::Turns::turns, copies::proofs::Guards::chain), unfolding(crate::specs::Whole::meets))]
 fn meets(job: Job, other: Job) -> bool
     ensures { result ≡ meets job other }
 {
@@ -97,7 +107,6 @@ fn meets(job: Job, other: Job) -> bool
 }
 
 // W4: whether no other job locks what job j locks exclusively.
-#[tactic(auto, using(crate::proofs::Turns::turns, copies::proofs::Guards::chain), unfolding(crate::specs::Whole::W4_alone, words::specs::Tests::non))]
 fn alone(jobs: &[Job; JOBS], j: usize) -> bool
     requires { j < job_count }
     ensures { result ≡ W4_alone jobs.now j }
@@ -111,19 +120,17 @@ fn alone(jobs: &[Job; JOBS], j: usize) -> bool
 }
 
 // W5 of a lock place, by whether all before it are used.
-#[tactic(auto, using(copies::proofs::Guards::chain))]
 fn place_fine(lock: Lock, before: bool) -> bool
     ensures { result ≡ cond (eqb lock.mode 0) (eqb lock.series 0 and eqb lock.drawn 0) before }
 {
-    if lock.mode == 0 {
-        (lock.series == 0) & (lock.drawn == 0)
-    } else {
+    if lock.is_used() {
         before
+    } else {
+        (lock.series == 0) & (lock.drawn == 0)
     }
 }
 
 // W5 of the four lock places.
-#[tactic(auto, using(crate::proofs::Turns::turns, copies::proofs::Guards::chain), unfolding(crate::specs::Whole::W5_lock))]
 fn places_fine(job: Job) -> bool
     ensures { result ≡ all_below lock_count (λ i. W5_lock job i) }
 {
@@ -137,7 +144,6 @@ fn places_fine(job: Job) -> bool
 }
 
 // Whether no lock place is used.
-#[tactic(auto, using(crate::proofs::Turns::turns), unfolding(words::specs::Tests::non))]
 fn has_no_lock(job: Job) -> bool
     ensures { result ≡ all_below lock_count (λ i. non (is_used job i)) }
 {
@@ -149,7 +155,6 @@ fn has_no_lock(job: Job) -> bool
 }
 
 // W5 of a job slot.
-#[tactic(auto, using(copies::proofs::Guards::chain, crate::proofs::Turns::if_is), unfolding(crate::specs::Whole::W5_job))]
 fn unused_fine(job: Job) -> bool
     ensures { result ≡ W5_job job }
 {
@@ -161,7 +166,6 @@ fn unused_fine(job: Job) -> bool
 }
 
 // W4 of a job whose numbers are in range; `apart` says that no other job locks what it locks exclusively.
-#[tactic(auto, using(copies::proofs::Guards::chain, crate::proofs::Turns::if_is, copies::proofs::Reading::read_at), unfolding(crate::specs::Whole::W4_job, crate::specs::FirstBroken::short_for_jobs))]
 fn open_fine(job: Job, columns: &Seen<'_>, apart: bool) -> bool
     requires { (short_for_jobs (seen columns.now) ≡ false) × (job.station < station_count) × ((i : ℕ) → i < lock_count → (lock_at job i).series < series_count) }
     ensures { (bs : List Job) (j : ℕ) → job ≡ job_at bs j → apart ≡ W4_alone bs j → result ≡ W4_job (seen columns.now) bs j }
@@ -173,7 +177,6 @@ fn open_fine(job: Job, columns: &Seen<'_>, apart: bool) -> bool
 }
 
 // The first rule that a job breaks; `apart` says that no other job locks what it locks exclusively.
-#[tactic(auto, using(crate::proofs::Ways::in_ranges, crate::proofs::Ways::decided), unfolding(crate::specs::FirstBroken::broken_job))]
 fn job_rule(job: Job, columns: &Seen<'_>, apart: bool) -> Option<Rule>
     requires { short_for_jobs (seen columns.now) ≡ false }
     ensures { (bs : List Job) (j : ℕ) → job ≡ job_at bs j → apart ≡ W4_alone bs j → result ≡ broken_job (seen columns.now) bs j }
@@ -191,7 +194,7 @@ fn job_rule(job: Job, columns: &Seen<'_>, apart: bool) -> Option<Rule>
 }
 
 // The first rule that the slots break.
-#[tactic(auto, using(copies::proofs::Guards::chain, crate::proofs::Turns::if_is, crate::proofs::Ways::walked), unfolding(crate::specs::FirstBroken::first_broken_job, crate::specs::FirstBroken::broken_job, crate::specs::Whole::W4_job))]
+#[tactic(auto, using(crate::proofs::Ways::walking), unfolding(crate::specs::FirstBroken::first_broken_job, crate::specs::FirstBroken::broken_job, crate::specs::Whole::W4_job))]
 fn broken_rule(jobs: &[Job; JOBS], columns: &Seen<'_>) -> Option<Rule>
     requires { short_for_jobs (seen columns.now) ≡ false }
     ensures { result ≡ first_broken_job (seen columns.now) jobs.now }
@@ -211,7 +214,6 @@ fn broken_rule(jobs: &[Job; JOBS], columns: &Seen<'_>) -> Option<Rule>
 }
 
 // What the walk finds wrong in the slots and in tables of any size.
-#[tactic(auto, using(copies::proofs::Guards::chain), unfolding(crate::specs::FirstBroken::short_for_jobs, crate::specs::FirstBroken::check_jobs, copies::specs::FirstBroken::found_by))]
 pub fn first_broken_job(jobs: &[Job; JOBS], columns: &Seen<'_>) -> Result<(), Flaw>
     ensures { result ≡ check_jobs (seen columns.now) jobs.now }
 {

@@ -3,7 +3,7 @@ use crate::Failure;
 use crate::answering::answer_all;
 use crate::reading::arrived;
 use copies::Lent;
-use desk::keep;
+use desk::{OpenDesk, keep};
 use jobs::Job;
 use std::io::{Read, Write};
 use words::{JOBS, OUTPUT, PLACES, RECEIVED, SERIES, STATIONS, Serial};
@@ -42,22 +42,17 @@ pub fn answer_lines<R: Read, W: Write>(input: &mut R, output: &mut W) -> Result<
     let mut jobs = [Job::begun(0).close(); JOBS];
     // The columns have their sizes, so the empty plant is not refused.
     let _ = machine::empty(&mut jobs, &mut columns);
-    let mut number = 1;
+    let mut desk = OpenDesk {
+        number: 1,
+        jobs,
+        columns,
+        row: &mut row,
+    };
     let mut held = 0;
     for _ in 0..u64::MAX {
         let piece = arrived(input, &mut buf, held).map_err(Failure::Reading)?;
-        let left = answer_all(
-            &buf[..piece.end],
-            number,
-            &mut jobs,
-            &mut columns,
-            &mut row,
-            &mut out,
-            output,
-        )
-        .map_err(Failure::Writing)?;
-        number = left.number;
-        held = keep(&mut buf, left.used, piece.end);
+        let used = answer_all(&mut desk, &buf[..piece.end], &mut out, output).map_err(Failure::Writing)?;
+        held = keep(&mut buf, used, piece.end);
         if piece.last {
             break;
         }

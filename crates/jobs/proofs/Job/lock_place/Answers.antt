@@ -1,3 +1,4 @@
+-- `jobs::Job::lock_place` meets its contract: `position` finds the least place that locks the series. Assumes nothing.
 use Rattle.std.proofs.Common.{rules, tests, eqb}
 use Rattle.std.proofs.lemmas.Iterator.{YieldsList-from_slice}
 use Rattle.std.proofs.lemmas.Iterator.Search.{position_from_yields_List}

@@ -1,8 +1,9 @@
+-- `jobs::Job::new_place` meets its contract: `position` finds the least unused place. Assumes nothing.
 use Rattle.std.proofs.Common.{rules, tests, eqb}
 use Rattle.std.proofs.lemmas.Iterator.{YieldsList-from_slice}
 use Rattle.std.proofs.lemmas.Iterator.Search.{position_from_yields_List}
 use Rattle.jobs.specs.declared.Lock.{Lock}
-use Rattle.words.specs.Tests.{non, ◌and◌}
+use Rattle.words.specs.Tests.{non}
 use Rattle.jobs.specs.Job.{new_place}
 use Rattle.jobs.proofs.Places.{found, length_mapped}
 use Rattle.jobs.proofs.Job.new_place.Goals as goal
