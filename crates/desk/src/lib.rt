@@ -4,11 +4,10 @@
 mod feeding;
 mod keeping;
 
-pub use feeding::feed;
-pub use keeping::keep;
-
 use copies::Lent;
+pub use feeding::feed;
 use jobs::Job;
+pub use keeping::keep;
 use words::{JOBS, Serial};
 
 // Line numbers go on past 32 bits, up to this one, so that the number after it still fits 64.
