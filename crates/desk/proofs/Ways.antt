@@ -1,6 +1,6 @@
--- The ways out of `judge` and `answer`: what a line came to and what was written are what the definitions say.
+-- The ways out of `judge`, `say` and `answer`: what a line came to and what was written are what the definitions say.
 -- Assumes nothing.
-use Rattle.std.specs.Prelude.{Err}
+use Rattle.std.specs.Prelude.{Err, is_some}
 use Prim.Native.Nat.{ℕ, min, ◌+◌, ◌*◌, ◌≤◌}
 use mathlib.Core.Path.{◌≡◌, refl, ap, sym, ◌∙◌}
 use mathlib.Core.Bool.{Bool, true, false, cond}
@@ -12,7 +12,8 @@ use lib.Seq.{sets}
 use Rattle.words.specs.declared.Refusal.TheVariants.{BadEvent}
 use Rattle.words.specs.Answers.{Answer, value_of}
 use Rattle.copies.specs.Tables.{Copies}
-use Rattle.jobs.specs.Calls.{Stepped}
+use Rattle.jobs.specs.declared.Job.{Job}
+use Rattle.jobs.specs.Calls.{stepped}
 use Rattle.digits.specs.Printing.{wrote_at, written_at}
 use Rattle.digits.proofs.Laws.{room_found}
 use Rattle.rulebook.specs.declared.Event.{Event}
@@ -44,48 +45,53 @@ heard_step_lem : (e : Event) (o : Outcome) (n : ℕ) → n ≡ cond (eqb e.kind 
 heard_step_lem e o n h = rw (h, take_if (eqb e.kind COMMIT) (3 * value_of o.answer) o.out)
 
 -- an event stepped
-pub judged_good : (line : List ℕ) (r : Option Event) (e : Event) (p : Plant) (out : List ℕ) (s : Stepped) (t : Copies) (row : List ℕ) (n : ℕ)
-    → r ≡ event_line line → r ≡ Some e → left s t row ≡ step_of p out e
-    → n ≡ cond (eqb e.kind COMMIT) (3 * value_of s.answer) 0
-    → came_to s.answer n (plant t s.jobs) row ≡ heard p out line
+pub judged_good : (line : List ℕ) (r : Option Event) (e : Event) (p : Plant) (out : List ℕ) (a : Answer) (bs : List Job) (t : Copies) (row : List ℕ) (n : ℕ)
+    → r ≡ event_line line → r ≡ Some e → left (stepped a bs) t row ≡ step_of p out e
+    → n ≡ cond (eqb e.kind COMMIT) (3 * value_of a) 0
+    → came_to a n (plant t bs) row ≡ heard p out line
 unfolding heard
-judged_good line r e p out s t row n f g h k = rw (sym f ∙ g) (heard_step_lem e (left s t row) n k ∙ ap (heard_step e) h)
+judged_good line r e p out a bs t row n f g h k =
+    rw (sym f ∙ g) (heard_step_lem e (left (stepped a bs) t row) n k ∙ ap (heard_step e) h)
 
 -- the line said none
-pub judged_bad : (line : List ℕ) (r : Option Event) (p : Plant) (out : List ℕ)
-    → r ≡ event_line line → r ≡ None
+pub judged_bad : (line : List ℕ) (r : Option Event) (p : Plant) (out : List ℕ) → r ≡ event_line line → r ≡ None
     → came_to (Err BadEvent) 0 p out ≡ heard p out line
 unfolding heard
 judged_bad line r p out f g = rw (sym f ∙ g)
 
 -- ---- the answering of a line
--- where there is room for any answer, an answer line is written
-module _ (bytes : List ℕ) (at : ℕ) (text : List ℕ) (room : at + answer_room ≤ length bytes) where
+-- where there is room for any answer, the answer line is written, with no more numbers of the output than there are
+module _ (bytes : List ℕ) (at n : ℕ) (a : Answer) (k : ℕ) (row : List ℕ) {w : Option ℕ} {shown : ℕ} (room : at + answer_room ≤ length bytes)
+    (m : shown ≡ min k (length row)) (f : w ≡ wrote_at answer_room (length bytes) at (answer_text n (reply a (take shown row)))) where
+  abbrev text : List ℕ
+  text = answer_text n (reply a (take k row))
+
+  same : answer_text n (reply a (take shown row)) ≡ text
+  same = rw (m, take_min k row)
+
+  wrote : w ≡ Some (at + length text)
+  wrote = (rw same at f) ∙ sym (room_found answer_room bytes at text (omega arith) (omega arith)).0
+
+  -- there was room
+  pub said_some : is_some w ≡ true
+  said_some = ap is_some wrote
+
   -- this is the position after it
-  pub wrote_to : (w : Option ℕ) → w ≡ wrote_at answer_room (length bytes) at text → w ≡ Some (at + length text)
-  wrote_to w f = f ∙ sym (room_found answer_room bytes at text (omega arith) (omega arith)).0
+  pub said_position : {next : ℕ} → w ≡ Some next → next ≡ at + length text
+  said_position {next} g = same_Some _ _ (sym g ∙ wrote)
 
   -- and it stands there
-  wrote_bytes : (last : List ℕ) → last ≡ written_at answer_room bytes at text → last ≡ sets bytes at text
-  wrote_bytes last g = g ∙ sym (room_found answer_room bytes at text (omega arith) (omega arith)).1
+  pub said_bytes : {last : List ℕ} → last ≡ written_at answer_room bytes at (answer_text n (reply a (take shown row))) → last ≡ sets bytes at text
+  said_bytes g = (rw same at g) ∙ sym (room_found answer_room bytes at text (omega arith) (omega arith)).1
 
--- so the answer to a line stands there
-pub said_to : (bytes : List ℕ) (at n : ℕ) (r : Judged) (row last : List ℕ) (w : Option ℕ) (next shown : ℕ)
-    → at + answer_room ≤ length bytes
-    → shown ≡ min r.shown (length row)
-    → w ≡ wrote_at answer_room (length bytes) at (answer_text n (reply r.answer (take shown row)))
-    → last ≡ written_at answer_room bytes at (answer_text n (reply r.answer (take shown row)))
-    → w ≡ Some next
-    → (next ≡ at + length (answer_text n (reply r.answer (take r.shown row)))) × (last ≡ sets bytes at (answer_text n (reply r.answer (take r.shown row))))
-said_to bytes at n r row last w next shown room m f g k =
-    let text : List ℕ = answer_text n (reply r.answer (take r.shown row)) in
-    let same : take shown row ≡ take r.shown row = rw m (take_min r.shown row) in
-    let to : Some next ≡ Some (at + length text) = sym k ∙ wrote_to bytes at text room w (rw same at f) in
-    (same_Some _ _ to, wrote_bytes bytes at text room last (rw same at g))
+-- what is known of an answer that was written
+pub ruleset say_ways = (said_some, said_position, said_bytes)
 
--- and what is left is what the answering of the line is to leave
-pub put_is : (d : Desk) (line bytes : List ℕ) (at n : ℕ) (h : Heard) (next : ℕ) (last : List ℕ) → n ≡ d.number → h ≡ heard d.plant d.out line
-    → next ≡ at + length (answer_text n h.reply) → last ≡ sets bytes at (answer_text n h.reply)
-    → answered next (desk (n + 1) h.plant h.out) last ≡ put d line bytes at
+-- a line's answer was said, and the next line has the next number
+pub put_is : (d : Desk) (line bytes : List ℕ) (at n : ℕ) (p : Plant) (out last : List ℕ) (next : ℕ) (r : Judged)
+    → n ≡ d.number → judged r (desk n p out) ≡ heard d.plant d.out line
+    → next ≡ at + length (answer_text n (reply r.answer (take r.shown out)))
+    → last ≡ sets bytes at (answer_text n (reply r.answer (take r.shown out)))
+    → answered next (desk (n + 1) p out) last ≡ put d line bytes at
 unfolding put says after
-put_is d line bytes at n h next last m e f g = rw (f, g, e, m)
+put_is d line bytes at n p out last next r m e f g = rw (f, g, sym e, m)

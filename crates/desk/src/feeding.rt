@@ -30,6 +30,7 @@ fn shown(kind: u32, answer: Answer) -> usize
 }
 
 // The event that a line says steps; a line that says none is a BAD EVENT.
+#[tactic(auto, using(crate::proofs::Ways::judged_bad))]
 fn judge(desk: &mut OpenDesk<'_>, line: &[u8]) -> Judged
     ensures same { SameDesk desk.old desk.new }
     ensures number { desk.new.number ≡ desk.old.number }
@@ -49,6 +50,7 @@ fn judge(desk: &mut OpenDesk<'_>, line: &[u8]) -> Judged
 }
 
 // Writes the answer of the desk's line at a position of out that has room for any; the position after it.
+#[tactic(auto, using(crate::proofs::Ways::say_ways))]
 fn say(desk: &OpenDesk<'_>, said: Judged, out: &mut [u8], at: usize) -> usize
     requires { at + answer_room ≤ length out.old }
     ensures position { result ≡ at + length (answer_text desk.now.number (judged said (desk_of desk.now)).reply) }

@@ -4,6 +4,6 @@ use Rattle.desk.proofs.feeding.answer.Goals as goal
 
 pub returns-clause-leaves : goal.returns-clause-leaves
 returns-clause-leaves c =
-    let judged = c.judge-said.ensures in
-    let wrote = c.say-next.ensures in
-    put_is _ _ _ _ _ _ _ _ judged.number judged.leaves wrote.position wrote.out_after
+    let heard = c.judge-said.ensures in
+    let said = c.say-next.ensures in
+    put_is _ _ _ _ _ _ _ _ _ c.judge-said.result heard.number heard.leaves said.position said.out_after
