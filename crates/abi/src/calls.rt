@@ -1,4 +1,4 @@
-// The exported calls: each hands all that it was lent to the public call of `plant`, and says the answer as numbers.
+// The exported calls: each hands all that it was lent to the public call of `plant`, and says the answer as numbers. C lends each column by itself.
 ghost use Rattle.std.specs.Prelude.{◌≡◌};
 ghost use Rattle.copies.specs.Tables.{tables};
 ghost use Rattle.rulebook.specs.Tables.{plant};

@@ -125,6 +125,7 @@ fn holders_in(columns: &Seen<'_>, series: u32) -> u8
 {
     let mut set: u32 = 0;
     let mut bit: u32 = 1;
+    // by its number, which its bit and its place are counted from
     for n in 0..STATIONS {
         set = set + if_held(columns.kinds[series as usize * STATIONS + n], bit);
         bit = bit * 2;

@@ -37,6 +37,7 @@ fn held_count(columns: &Lent<'_>, station: u32) -> u32
     ensures { result ≡ held_count (lent columns.now) station }
 {
     let mut count = 0;
+    // by its number: the copies of one station stand eight apart
     for s in 0..SERIES {
         count = count + if_held(columns.kinds[s * STATIONS + station as usize], 1);
     }

@@ -103,6 +103,7 @@ fn at_most(columns: &Seen<'_>, s: usize, n: usize) -> bool
     ensures { result ≡ W3_at_most (series_at (seen columns.now) s) n }
 {
     let mut all = true;
+    // by its number, for two columns
     for m in 0..STATIONS {
         let got = columns.received[(s * STATIONS + n) * STATIONS + m];
         all = all & (got <= columns.sent[s * STATIONS + m]);
@@ -117,6 +118,7 @@ fn only_receiver(received: &[u32], s: usize, n: usize, to: u32, number: u32) -> 
     ensures { result ≡ all_below station_count (λ m. eqb (get_or received.now (received_place s m n) 0) number ⇒ eqb to m) }
 {
     let mut all = true;
+    // by its number: what one sender is owed stands eight apart
     for m in 0..STATIONS {
         all = all & ((received[(s * STATIONS + m) * STATIONS + n] != number) | (to as usize == m));
     }
@@ -216,6 +218,7 @@ fn tokens_fine(columns: &Seen<'_>, s: usize) -> bool
         next: 0,
         same: true,
     };
+    // by its number, for six columns
     for n in 0..STATIONS {
         let kept = kept_at(columns, s, n);
         let transfer = transfer_kind(columns.received, s, n, kept);

@@ -20,7 +20,8 @@ use rulebook::{
 };
 use words::{Answer, JOBS, Refusal, Serial};
 
-// An event that no job takes part in; `free` says that no job locks the copy.
+// An event that no job takes part in; `free` says that no job locks the copy. Each call takes fields of its own, so a table of closures would be
+// no plainer than this switch, nor would one of the jobs' calls.
 fn copy_event(columns: &mut Lent<'_>, free: bool, event: Event) -> Answer
     ensures same { SameColumns columns.old columns.new }
     ensures leaves { outcome result (lent columns.new) ≡ copy_event (lent columns.old) free event }

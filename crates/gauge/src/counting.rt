@@ -46,6 +46,7 @@ pub fn count_accepted(
     ensures { result ≡ accepted_from numbers.now (event_count numbers.now) 0 (plant (lent columns.old) jobs.old) out.old }
 {
     let mut count = 0;
+    // by its number, as the definition counts the events
     for i in 0..numbers.len() / EVENT_SIZE {
         let event = event_at(numbers, i);
         count += counts_for(step_unchecked(jobs, columns, out, event));

@@ -16,7 +16,7 @@ pub use locking::{abort, begin, lock_exclusive, lock_share};
 pub use slots::{close_station, crash, is_free};
 pub use walk::first_broken_job;
 
-// A lock of a job: an unused place has mode 0. Laid out as in C, since other programs lend tables of jobs.
+// A lock of a job: an unused place has mode 0. Laid out as in C, in numbers, since other programs lend tables of jobs.
 #[repr(C)]
 #[derive(Clone, Copy, Default)]
 pub struct Lock {

@@ -40,6 +40,7 @@ pub fn differs(job: Job, i: usize) -> bool
 {
     let series = job.locks[i].series;
     let mut all = true;
+    // by its number, up to that of the place
     for k in 0..i {
         all = all & !job.locks[k].is_on(series);
     }
@@ -86,6 +87,7 @@ fn locks_fine(job: Job, columns: &Seen<'_>) -> bool
     ensures { result ≡ W4_locks (seen columns.now) job }
 {
     let mut all = true;
+    // by its number, since a place is compared with those before it
     for i in 0..LOCKS {
         all = all & lock_fine(job, columns, i);
     }
@@ -113,6 +115,7 @@ fn alone(jobs: &[Job; JOBS], j: usize) -> bool
 {
     let job = jobs[j];
     let mut all = true;
+    // by its number, since a job is not compared with itself
     for k in 0..JOBS {
         all = all & ((k == j) | !meets(job, jobs[k]));
     }
@@ -199,6 +202,7 @@ fn broken_rule(jobs: &[Job; JOBS], columns: &Seen<'_>) -> Option<Rule>
     requires { short_for_jobs (seen columns.now) ≡ false }
     ensures { result ≡ first_broken_job (seen columns.now) jobs.now }
 {
+    // by its number, by which `alone` leaves the job itself out
     for j in 0..JOBS {
         let job = jobs[j];
         // Most slots are unused, which a look at the slot alone tells.

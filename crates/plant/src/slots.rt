@@ -1,4 +1,5 @@
-// The table of job slots, lent as a slice: thin functions take one slot out, call its methods and put it back.
+// The table of job slots, lent as a slice: thin functions take one slot out, call its methods and put it back. 01 asks for this form, so the
+// loops name the slots by number.
 ghost use Rattle.std.specs.Prelude.{◌≡◌, ◌++◌, ◌<◌, ◌≤◌, length, set, take, drop, replicate};
 ghost use Rattle.std.proofs.lemmas.List.Edits.{sets};
 ghost use Rattle.words.specs.Numbers.{job_count};

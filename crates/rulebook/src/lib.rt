@@ -4,7 +4,7 @@
 
 use words::{Answer, Serial};
 
-// The seventeen kinds of events.
+// The seventeen kinds of events. Numbers: C and the lines give any, and 01 has the kind decided as a number.
 pub const OPEN: u32 = 1;
 
 pub const BEGIN: u32 = 2;
@@ -50,7 +50,8 @@ pub struct Event {
     pub d: Serial,
 }
 
-// Who holds a series: the station set with bit i for station i, how many they are, and the lowest (8 if none).
+// Who holds a series: the station set with bit i for station i, how many they are, and the lowest (8 if none). A refusal stands in the same
+// record, and not beside it, since `RefusalKeeps` says of it that all three are 0.
 #[derive(Clone, Copy)]
 pub struct Holders {
     pub answer: Answer,

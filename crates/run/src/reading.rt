@@ -4,7 +4,7 @@ ghost use Rattle.std.specs.Prelude.{◌<◌, ◌≤◌, IfOk, length};
 use std::io;
 use std::io::Read;
 
-// Where a piece ends in the buffer, and whether it is the last.
+// Where a piece ends in the buffer, and whether it is the last. Two cases that both hold an end would be no plainer.
 #[derive(Clone, Copy)]
 pub struct Piece {
     pub end: usize,

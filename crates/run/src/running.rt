@@ -49,6 +49,7 @@ pub fn answer_lines<R: Read, W: Write>(input: &mut R, output: &mut W) -> Result<
         row: &mut row,
     };
     let mut held = 0;
+    // A loop has to end; this one does by its input, long before.
     for _ in 0..u64::MAX {
         let piece = arrived(input, &mut buf, held).map_err(Failure::Reading)?;
         let used = answer_all(&mut desk, &buf[..piece.end], &mut out, output).map_err(
