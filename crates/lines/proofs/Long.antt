@@ -15,7 +15,7 @@ use Rattle.words.specs.declared.Refusal.TheVariants.{Short, NotWhole, BadEvent, 
 use Rattle.words.specs.declared.Refusal.TheVariants.{Copy, Locked, NoLock, Drawn, Range, Wait, Spent, Others, NoMessage}
 use Rattle.words.specs.Numbers.{out_count}
 use Rattle.std.specs.Prelude.{Some, Ok, Err}
-use Rattle.digits.specs.Printing.{decimal, wrote_at, written_at}
+use Rattle.digits.specs.Printing.{wrote_at, written_at}
 use Rattle.digits.proofs.Laws.{room_found}
 use Rattle.digits.proofs.Round.{decimal_long}
 use Rattle.rulebook.specs.declared.Event.{Event}
@@ -23,7 +23,9 @@ use Rattle.rulebook.specs.Events.{numbers, RESTART}
 use Rattle.lines.specs.EventLines.{field_count}
 use Rattle.lines.specs.Printed.{ended, line, event_text, event_room, reply, answer_text, answer_room}
 use Rattle.lines.proofs.Fields.{count_none}
-use Rattle.lines.proofs.Puts.{line_length, ended_length, ended_none, line_text}
+use Rattle.lines.specs.declared.printing.Pen.{Pen}
+use Rattle.lines.specs.Pens.{fits}
+use Rattle.lines.proofs.Puts.{Left, left_all, line_length, ended_length, ended_none}
 
 -- all numbers of a list are of 32 bits
 abbrev pub Narrow : List ℕ → Type 0
@@ -134,36 +136,19 @@ event_long e h d = by (leb e.kind RESTART) refl
         let z : field_count e.kind ≡ 0 = sym (count_none e.kind (leb-false _ _ q)) in
         rw z (omega (arith, line_length e.kind [], ap length ended_none, decimal_long 10 e.kind (omega arith) (omega arith)))
 
--- an event line by its kind and its fields
-event_parts : (e : Event) → length (event_text e) ≡ length (decimal e.kind) + length (ended (take (field_count e.kind) (numbers e)))
+-- an event line is a line of numbers, of which at first all is left to write
+pub event_left : (pen : Pen) (e : Event) {kind count : ℕ} → kind ≡ e.kind → count ≡ field_count e.kind → fits pen (event_text e)
+    → Left pen (event_text e) pen (line kind (take count (numbers e)))
 unfolding event_text
-event_parts e = line_length e.kind (take (field_count e.kind) (numbers e))
+event_left pen e k c h = rw (k, c) (left_all pen _ h)
 
-module _ (e : Event) (at : ℕ) {count kind : ℕ} (c : count ≡ field_count e.kind) (k : kind ≡ e.kind) where
-  -- there is room for its kind
-  pub kind_room : kind < 2 ^ 32 → Narrow (numbers e) → length (decimal kind) ≤ event_room
-  kind_room h d = rw k (omega (arith, event_long e (omega arith) d, event_parts e))
+-- where there is enough room for a text that is written, the position after it, and the bytes
+module _ (room : ℕ) (first text : List ℕ) (at : ℕ) (h : at ≤ length first) (g : room ≤ length first - at) where
+  pub text_to : (next : ℕ) → next ≡ at + length text → Some next ≡ wrote_at room (length first) at text
+  text_to next e = ap Some e ∙ (room_found room first at text h g).0
 
-  module _ {p : ℕ} (f : p ≡ at + length (decimal kind)) where
-    at_fields : p ≡ at + length (decimal e.kind)
-    at_fields = rw k at f
+  pub text_bytes : (last : List ℕ) → last ≡ sets first at text → last ≡ written_at room first at text
+  text_bytes last e = e ∙ (room_found room first at text h g).1
 
-    -- and for its fields
-    pub fields_room : kind < 2 ^ 32 → Narrow (numbers e) → p + length (ended (take count (numbers e))) ≤ at + event_room
-    fields_room h d = rw c (omega (arith, at_fields, event_long e (omega arith) d, event_parts e))
-
-    -- when they are written too, the position after them, and the bytes
-    module _ (first : List ℕ) (h : at ≤ length first) (g : event_room ≤ length first - at) where
-      pub event_to : (s : ℕ) → s ≡ p + length (ended (take count (numbers e))) → Some s ≡ wrote_at event_room (length first) at (event_text e)
-      event_to s q =
-          let z : s ≡ at + length (event_text e) = omega (arith, at_fields, event_parts e, rw c at q) in
-          ap Some z ∙ (room_found event_room first at (event_text e) h g).0
-
-      pub event_bytes : (out last : List ℕ) → last ≡ sets out p (ended (take count (numbers e))) → out ≡ sets first at (decimal kind)
-          → last ≡ written_at event_room first at (event_text e)
-      unfolding event_text
-      event_bytes out last q o =
-          (rw c at q) ∙ line_text first out at p e.kind _ at_fields (rw k at o) ∙ (room_found event_room first at (event_text e) h g).1
-
--- what writing an answer line or an event line comes to
-pub ruleset written_ways = (answer_to, answer_bytes, event_to, event_bytes)
+-- what writing a line comes to
+pub ruleset written_ways = (text_to, text_bytes, answer_to, answer_bytes)

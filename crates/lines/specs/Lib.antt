@@ -3,3 +3,4 @@ pub mod Reader
 pub mod EventLines
 pub mod Printed
 pub mod Back
+pub mod Pens

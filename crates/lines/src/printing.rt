@@ -4,6 +4,7 @@ ghost use Rattle.std.proofs.lemmas.List.Edits.{sets};
 ghost use Rattle.digits.specs.Bytes.{space};
 ghost use Rattle.digits.specs.Printing.{decimal, wrote_at, written_at};
 ghost use Rattle.lines.specs.Printed.{ended, line, event_text, reply, answer_text, event_room, answer_room};
+ghost use Rattle.lines.specs.Pens.{fits, Wrote};
 
 use crate::event_lines::fields_of;
 use crate::{ANSWER_ROOM, EVENT_ROOM};
@@ -11,58 +12,68 @@ use digits::print_number;
 use rulebook::Event;
 use words::{Answer, OUTPUT, Serial, code, value};
 
-// n at a position of out that has room for it; the position after it.
-#[tactic(auto, using(crate::proofs::Puts::with_room))]
-fn put_number(out: &mut [u8], at: usize, n: u64) -> usize
-    requires { at + length (decimal n) ≤ length out.old }
-    ensures value { result ≡ at + length (decimal n) }
-    ensures out_after { out.new ≡ sets out.old at (decimal n) }
-{
-    print_number(out, at, n).unwrap()
-}
-
-// A space and n at a position of out; the position after them.
-fn put_field(out: &mut [u8], at: usize, n: Serial) -> usize
-    requires { at + (length (decimal n) + 1) ≤ length out.old }
-    ensures value { result ≡ at + (length (decimal n) + 1) }
-    ensures out_after { out.new ≡ sets out.old at (space ∷ decimal n) }
-{
-    out[at] = b' ';
-    put_number(out, at + 1, u64::from(n))
-}
-
-// The numbers of row, a space before each, and LF; the position after it.
-#[tactic(auto, using(crate::proofs::Puts::row_ways))]
-fn put_fields(out: &mut [u8], at: usize, row: &[Serial]) -> usize
-    requires { at + length (ended row.now) ≤ length out.old }
-    ensures value { result ≡ at + length (ended row.now) }
-    ensures out_after { out.new ≡ sets out.old at (ended row.now) }
-{
-    let mut next = at;
-    for number in row {
-        next = put_field(out, next, *number);
-    }
-    out[next] = b'\n';
-    next + 1
-}
-
-// An answer line at a position of out that has room for it; the position after it.
-fn put_answer(
-    out: &mut [u8],
+// Lent bytes, and the position where the next part of a line goes. Each method writes there and moves past what it wrote.
+#[derive(Drop)]
+struct Pen<'a> {
+    out: &'a mut [u8],
     at: usize,
-    number: u64,
-    code: u32,
-    value: Serial,
-    row: &[Serial],
-) -> usize
-    requires { at + length (line number (code ∷ value ∷ row.now)) ≤ length out.old }
-    ensures value { result ≡ at + length (line number (code ∷ value ∷ row.now)) }
-    ensures out_after { out.new ≡ sets out.old at (line number (code ∷ value ∷ row.now)) }
-{
-    let after_number = put_number(out, at, number);
-    let after_code = put_field(out, after_number, code);
-    let after_value = put_field(out, after_code, value);
-    put_fields(out, after_value, row)
+}
+
+impl Pen<'_> {
+    // Writes n.
+    #[tactic(auto, using(crate::proofs::Puts::with_room))]
+    fn number(&mut self, n: u64)
+        requires { fits self.old (decimal n) }
+        ensures { Wrote self.old (decimal n) self.new }
+    {
+        self.at = print_number(self.out, self.at, n).unwrap();
+    }
+
+    // Writes a space and n.
+    fn field(&mut self, n: Serial)
+        requires { fits self.old (space ∷ decimal n) }
+        ensures { Wrote self.old (space ∷ decimal n) self.new }
+    {
+        self.out[self.at] = b' ';
+        self.at += 1;
+        self.number(u64::from(n));
+    }
+
+    // Writes the numbers of row, a space before each, and LF.
+    #[tactic(auto, using(crate::proofs::Puts::left_all))]
+    fn fields(&mut self, row: &[Serial])
+        requires { fits self.old (ended row.now) }
+        ensures { Wrote self.old (ended row.now) self.new }
+    {
+        for number in row {
+            self.field(*number);
+        }
+        self.out[self.at] = b'\n';
+        self.at += 1;
+    }
+
+    // Writes an answer line: its number, the answer's code and value, and the numbers of row.
+    fn answer(&mut self, number: u64, code: u32, value: Serial, row: &[Serial])
+        requires { fits self.old (line number (code ∷ value ∷ row.now)) }
+        ensures { Wrote self.old (line number (code ∷ value ∷ row.now)) self.new }
+    {
+        self.number(number);
+        self.field(code);
+        self.field(value);
+        self.fields(row);
+    }
+
+    // Writes an event line: the kind and exactly its fields.
+    #[tactic(auto, using(crate::proofs::Fields::count_most))]
+    fn event(&mut self, event: Event)
+        requires { fits self.old (event_text event) }
+        ensures { Wrote self.old (event_text event) self.new }
+    {
+        let fields = [event.a, event.b, event.c, event.d];
+        let count = fields_of(event.kind);
+        self.number(u64::from(event.kind));
+        self.fields(&fields[..count]);
+    }
 }
 
 // An answer line at a position of out: the line's number, the answer's code and value, and the numbers of row, at most twelve. It asks
@@ -86,12 +97,14 @@ pub fn write_answer(
         return None;
     }
     let shown = &row[..OUTPUT.min(row.len())];
-    Some(put_answer(out, at, number, code(answer), value(answer), shown))
+    let mut pen = Pen { out, at };
+    pen.answer(number, code(answer), value(answer), shown);
+    Some(pen.at)
 }
 
 // An event line at a position of out: the kind and exactly its fields. It asks for room for any event line; else out stays
 // as it is.
-#[tactic(auto, using(digits::proofs::Laws::no_room, crate::proofs::Fields::count_most, crate::proofs::Long::written_ways))]
+#[tactic(auto, using(digits::proofs::Laws::no_room, crate::proofs::Long::written_ways))]
 pub fn write_event(out: &mut [u8], at: usize, event: Event) -> Option<usize>
     ensures value { result ≡ wrote_at event_room (length out.old) at (event_text event) }
     ensures out_after { out.new ≡ written_at event_room out.old at (event_text event) }
@@ -102,8 +115,7 @@ pub fn write_event(out: &mut [u8], at: usize, event: Event) -> Option<usize>
     if out.len() - at < EVENT_ROOM {
         return None;
     }
-    let fields = [event.a, event.b, event.c, event.d];
-    let count = fields_of(event.kind);
-    let next = put_number(out, at, u64::from(event.kind));
-    Some(put_fields(out, next, &fields[..count]))
+    let mut pen = Pen { out, at };
+    pen.event(event);
+    Some(pen.at)
 }

@@ -3,14 +3,14 @@ use Rattle.std.proofs.Common.{arith}
 use Rattle.lines.proofs.Long.{answer_long}
 use Rattle.lines.proofs.printing.write_answer.Goals as goal
 
-pub put_answer-requires : goal.put_answer-requires
-put_answer-requires c =
+pub answer-requires : goal.answer-requires
+answer-requires c =
     omega (arith, answer_long c.args.number _ c.value.result c.args.answer c.args.row.now c.min.result c.code.ensures (omega arith) (omega arith) (λ i. omega (arith, c.type_inv.row i)) (omega arith))
 
 pub returns-clause-ends_by : goal.returns-clause-ends_by
 returns-clause-ends_by c =
     omega (
       arith,
-      c.put_answer.ensures.value,
+      c.answer.ensures.1,
       answer_long c.args.number _ c.value.result c.args.answer c.args.row.now c.min.result c.code.ensures (omega arith) (omega arith) (λ i. omega (arith, c.type_inv.row i)) (omega arith),
     )
