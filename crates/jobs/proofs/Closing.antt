@@ -35,7 +35,7 @@ module _ (n : ℕ) where
   close_at (suc k) (b ∷ bs) zero l = refl
   close_at (suc k) (b ∷ bs) (suc j) l = close_at k bs j (le_of_suc-le-suc l)
 
-  -- so does the next slot
+  -- one slot more: it is closed where its job is of the station
   close_step : (k : ℕ) (bs : List Job) → close_first n (suc k) bs ≡ set (close_first n k bs) k (cond (job_there (job_at bs k) n) no_job (job_at bs k))
   unfolding close_first ◌and◌
   close_step zero [] = refl
@@ -43,7 +43,7 @@ module _ (n : ℕ) where
   close_step (suc k) [] = refl
   close_step (suc k) (b ∷ bs) = ap (λ (rest : List Job). cond (job_there b n) no_job b ∷ rest) (close_step k bs)
 
-  -- where a loop counts on
+  -- in the numbers of a loop
   pub close_next : (k : ℕ) (bs : List Job) → close_first n (k + 1) bs ≡ set (close_first n k bs) k (cond (job_there (job_at bs k) n) no_job (job_at bs k))
   close_next k bs = rw add-one (close_step k bs)
 

@@ -4,6 +4,7 @@ use native.Mathlib.Numerals.{add-one}
 use mathlib.Core.Path.{◌≡◌, refl}
 use mathlib.Core.Bool.{Bool, true, false}
 use Rattle.std.specs.Prelude.{Option, Some, None}
+use Rattle.std.proofs.lemmas.List.{get_or-take}
 use Rattle.words.specs.declared.Rule.{Rule}
 use Rattle.words.specs.Numbers.{station_count, series_count, lock_count}
 use Rattle.words.specs.Tests.{◌or_else◌, first_below}
@@ -42,4 +43,4 @@ pub in_ranges : (b : Job) → W1_job b ≡ true → (b.station < station_count) 
 in_ranges b e = let w = (W1_job_reflects b).0 e in (w.of_station, λ i l. (w.of_lock i l).of_series)
 
 -- all that the walk's proofs cite
-pub ruleset walking = (turns, if_is, chain, and_true, read_at, walked, in_ranges)
+pub ruleset walking = (turns, if_is, chain, and_true, read_at, walked, in_ranges, get_or-take)

@@ -1,4 +1,5 @@
 // The walk over the sixteen slots that finds the first broken rule of the jobs: W1, W4 or W5.
+// Only the walk itself is left early: a test that runs its loop to the end is faster.
 #![tactic(auto, using(crate::proofs::Ways::walking), unfolding(crate::specs::Whole::W1_lock, crate::specs::Whole::W1_job, crate::specs::Whole::W4_exclusive, crate::specs::Whole::W4_share, crate::specs::Whole::W4_differs, crate::specs::Whole::W4_lock, crate::specs::Whole::W4_locks, crate::specs::Whole::meets, crate::specs::Whole::W4_alone, crate::specs::Whole::W4_job, crate::specs::Whole::W5_lock, crate::specs::Whole::W5_job, crate::specs::FirstBroken::broken_job, crate::specs::FirstBroken::first_broken_job, crate::specs::FirstBroken::short_for_jobs, crate::specs::FirstBroken::check_jobs, copies::specs::FirstBroken::found_by, copies::specs::Calls::bad_copy, copies::specs::Calls::beyond, words::specs::Tests::non))]
 
 ghost use Rattle.std.specs.Prelude.{◌≡◌, List, cond, ℕ, false, ◌<◌, eqb};
@@ -40,9 +41,8 @@ pub fn differs(job: Job, i: usize) -> bool
 {
     let series = job.locks[i].series;
     let mut all = true;
-    // by its number, up to that of the place
-    for k in 0..i {
-        all = all & !job.locks[k].is_on(series);
+    for lock in &job.locks[..i] {
+        all = all & !lock.is_on(series);
     }
     all
 }
@@ -115,9 +115,8 @@ fn alone(jobs: &[Job; JOBS], j: usize) -> bool
 {
     let job = jobs[j];
     let mut all = true;
-    // by its number, since a job is not compared with itself
-    for k in 0..JOBS {
-        all = all & ((k == j) | !meets(job, jobs[k]));
+    for (k, other) in jobs.iter().enumerate() {
+        all = all & ((k == j) | !meets(job, *other));
     }
     all
 }
@@ -202,15 +201,13 @@ fn broken_rule(jobs: &[Job; JOBS], columns: &Seen<'_>) -> Option<Rule>
     requires { short_for_jobs (seen columns.now) ≡ false }
     ensures { result ≡ first_broken_job (seen columns.now) jobs.now }
 {
-    // by its number, by which `alone` leaves the job itself out
-    for j in 0..JOBS {
-        let job = jobs[j];
+    for (j, job) in jobs.iter().enumerate() {
         // Most slots are unused, which a look at the slot alone tells.
-        let unused = !job.is_open() & in_range(job) & unused_fine(job);
+        let unused = !job.is_open() & in_range(*job) & unused_fine(*job);
         if unused {
             continue;
         }
-        if let Some(rule) = job_rule(job, columns, alone(jobs, j)) {
+        if let Some(rule) = job_rule(*job, columns, alone(jobs, j)) {
             return Some(rule);
         }
     }
