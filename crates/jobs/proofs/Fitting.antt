@@ -3,7 +3,7 @@
 use Prim.Native.Nat.{ℕ, ◌+◌, ◌-◌, ◌≤◌, ◌<◌}
 use native.Mathlib.Decide.{ℕ_discrete}
 use native.Mathlib.Omega.{arith}
-use mathlib.Core.Path.{◌≡◌, refl, sym}
+use mathlib.Core.Path.{◌≡◌, sym}
 use mathlib.Core.Logic.{dite}
 use mathlib.Core.Bool.{true, false}
 use mathlib.Core.List.{List}
@@ -13,11 +13,10 @@ use borrow.Author.Tests.{eqb-true, leb-true, le-leb, le-ltb, not-true}
 use Rattle.words.specs.Numbers.{station_count, series_count, lock_count, place_count, greatest_serial, share, exclusive}
 use Rattle.words.specs.Tests.{non, ◌and◌, ◌or◌}
 use Rattle.words.proofs.Laws.{both_true, true_all, least_true}
-use Rattle.words.proofs.Guards.{parts}
+use Rattle.std.proofs.lemmas.Bool.Decides.{nat_tests}
 use Rattle.words.proofs.Reflects.{Reflects, reflects_self, reflects_eq, reflects_not, reflects_and, reflects_unless}
 use Rattle.copies.specs.Tables.{Copies, series_at, place, value}
 use Rattle.copies.specs.Calls.{bad_copy, beyond}
-use Rattle.copies.proofs.Guards.{good_copy}
 use Rattle.copies.specs.Facts.{CopiesWhole}
 use Rattle.copies.proofs.Reading.{read_at, copy_good}
 use Rattle.copies.proofs.Long.{Long}
@@ -41,9 +40,9 @@ pub record Addable (lasts values : List ℕ) (s n count : ℕ) : Type 0 where
 
 module _ (lasts values : List ℕ) (s n count : ℕ) where
   -- a count isn't beyond what is left: refusals 1, 3 and 14 are not given
-  not_beyond : beyond lasts values s n count ≡ false → (series_count ≤ length lasts) × (place_count ≤ length values) × (bad_copy s n ≡ false) × (count ≤ get_or lasts s 0 + 1 - get_or values (place s n) 0)
-  unfolding beyond ◌or◌
-  not_beyond e = search parts
+  not_beyond : beyond lasts values s n count ≡ false → (series_count ≤ length lasts) × (place_count ≤ length values) × (s < series_count) × (n < station_count) × (count ≤ get_or lasts s 0 + 1 - get_or values (place s n) 0)
+  unfolding beyond bad_copy ◌or◌
+  not_beyond e = grind (arith, nat_tests)
 
   -- where the columns are long enough and there is such a copy, its value is read
   pub value_there : Addable lasts values s n count → entry_there values s n ≡ get_or values (place s n) 0
@@ -62,14 +61,13 @@ module _ (lasts values : List ℕ) (s n count : ℕ) where
       adds : (non (beyond lasts values s n count) ≡ true) × (leb (entry_there values s n + count) (greatest_serial + 1) ≡ true) → Addable lasts values s n count
       adds w =
           let p = not_beyond (not-true _ w.0) in
-          let fit = good_copy s n refl p.2 in
           record {
             long_lasts = p.0;
             long_values = p.1;
-            series = fit.0;
-            station = fit.1;
-            within = p.3;
-            small = rw (read_at place_count values (bad_copy s n) (place s n) p.1 p.2) (leb-true _ _ w.1);
+            series = p.2;
+            station = p.3;
+            within = p.4;
+            small = rw (read_at place_count values (bad_copy s n) (place s n) p.1 (copy_good s n p.2 p.3)) (leb-true _ _ w.1);
           }
 
 -- What a place with a draw has: the count can be added to its copy's value, the place is used, and no earlier place is on its series (W4).
