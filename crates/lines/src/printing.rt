@@ -1,6 +1,5 @@
 // Lines as they are printed: numbers with one space between, and LF.
 ghost use Rattle.std.specs.Prelude.{◌≡◌, ◌∷◌, ◌+◌, ◌≤◌, length, IfSome};
-ghost use Rattle.std.proofs.lemmas.List.Edits.{sets};
 ghost use Rattle.digits.specs.Bytes.{space};
 ghost use Rattle.digits.specs.Printing.{decimal, wrote_at, written_at};
 ghost use Rattle.lines.specs.Printed.{ended, line, event_text, reply, answer_text, event_room, answer_room};
