@@ -1,6 +1,5 @@
 // Lines as they are printed: numbers with one space between, and LF.
 ghost use Rattle.std.specs.Prelude.{◌≡◌, ◌∷◌, ◌+◌, ◌≤◌, length, IfSome};
-ghost use Rattle.std.proofs.lemmas.List.Edits.{sets};
 ghost use Rattle.digits.specs.Bytes.{space};
 ghost use Rattle.digits.specs.Printing.{decimal, wrote_at, written_at};
 ghost use Rattle.lines.specs.Printed.{ended, line, event_text, reply, answer_text, event_room, answer_room};
@@ -90,10 +89,7 @@ pub fn write_answer(
     ensures out_after { out.new ≡ written_at answer_room out.old at (answer_text number (reply answer row.now)) }
     ensures ends_by { IfSome result (λ next. next ≤ at + answer_room) }
 {
-    if out.len() < at {
-        return None;
-    }
-    if out.len() - at < ANSWER_ROOM {
+    if out.len().checked_sub(at)? < ANSWER_ROOM {
         return None;
     }
     let shown = &row[..OUTPUT.min(row.len())];
@@ -109,10 +105,7 @@ pub fn write_event(out: &mut [u8], at: usize, event: Event) -> Option<usize>
     ensures value { result ≡ wrote_at event_room (length out.old) at (event_text event) }
     ensures out_after { out.new ≡ written_at event_room out.old at (event_text event) }
 {
-    if out.len() < at {
-        return None;
-    }
-    if out.len() - at < EVENT_ROOM {
+    if out.len().checked_sub(at)? < EVENT_ROOM {
         return None;
     }
     let mut pen = Pen { out, at };
