@@ -1,14 +1,15 @@
 // The desk: a text of event lines comes in, in pieces of any size, and a text of answer lines goes out.
 #![tactic(auto)]
 
+use copies::Lent;
+use jobs::Job;
+use words::{JOBS, Serial};
+
 mod feeding;
 mod keeping;
 
-use copies::Lent;
 pub use feeding::feed;
-use jobs::Job;
 pub use keeping::keep;
-use words::{JOBS, Serial};
 
 // Line numbers go on past 32 bits, up to this one, so that the number after it still fits 64.
 pub const GREATEST_LINE: u64 = 18_446_744_073_709_551_614;

@@ -52,9 +52,8 @@ pub fn answer_lines<R: Read, W: Write>(input: &mut R, output: &mut W) -> Result<
     // A loop has to end; this one does by its input, long before.
     for _ in 0..u64::MAX {
         let piece = arrived(input, &mut buf, held).map_err(Failure::Reading)?;
-        let used = answer_all(&mut desk, &buf[..piece.end], &mut out, output).map_err(
-            Failure::Writing,
-        )?;
+        let text = &buf[..piece.end];
+        let used = answer_all(&mut desk, text, &mut out, output).map_err(Failure::Writing)?;
         held = keep(&mut buf, used, piece.end);
         if piece.last {
             break;
