@@ -13,5 +13,5 @@ unfolding open_series open_in opened bad_opening bad_copy short_opener refuse_if
 returns-clause-leaves c =
     let row = c.args.series * 8 in
     let kinds = row_filled 8 c.args.columns.now.kinds.now _ row _ (c.fill.ensures.after (λ y e. e)) (grind (arith, chain)) in
-    let values = row_filled 8 c.args.columns.now.values.now _ row _ (c.fill-2.ensures.after (λ y e. e)) (grind (arith, chain)) in
+    let values = row_filled 8 c.args.columns.now.values.now _ row c.args.first (c.fill-2.ensures.after (λ y e. e)) (grind (arith, chain)) in
     grind (arith, chain)
