@@ -8,7 +8,7 @@ ghost use Rattle.copies.specs.Steps.{is_spent, matches, released};
 ghost use Rattle.copies.specs.Calls.{outcome, refuse, done, bad_transfer, bad_message, short_sender, short_receiver, short_source, send, send_share, grant, ack};
 
 use crate::Lent;
-use crate::checks::{bad_message, bad_transfer, copy_of_kind};
+use crate::checks::{bad_message, bad_transfer, copy_of_kind, open_and_up};
 use words::{
     Answer, EXCLUSIVE, GREATEST_SENT, PLACES, RECEIVED, Refusal, SERIES, SHARE, STATIONS, VOID,
 };
@@ -137,12 +137,7 @@ pub fn grant(columns: &mut Lent<'_>, series: u32, from: u32, to: u32, number: u3
     if bad_message(series, from, to, number) {
         return Err(Refusal::BadEvent);
     }
-    if columns.firsts[series as usize] == 0 {
-        return Err(Refusal::None);
-    }
-    if columns.up[to as usize] != 1 {
-        return Err(Refusal::Down);
-    }
+    open_and_up(columns, series, to)?;
     let source = series as usize * STATIONS + from as usize;
     let at = series as usize * STATIONS + to as usize;
     if number <= columns.received[at * STATIONS + from as usize] {
@@ -184,12 +179,7 @@ pub fn ack(columns: &mut Lent<'_>, series: u32, from: u32, to: u32, number: u32)
     if bad_message(series, from, to, number) {
         return Err(Refusal::BadEvent);
     }
-    if columns.firsts[series as usize] == 0 {
-        return Err(Refusal::None);
-    }
-    if columns.up[from as usize] != 1 {
-        return Err(Refusal::Down);
-    }
+    open_and_up(columns, series, from)?;
     let at = series as usize * STATIONS + from as usize;
     if columns.sent[at] < number {
         return Err(Refusal::NoMessage);
