@@ -118,17 +118,17 @@ pub fn is_undelivered(
 }
 
 // The set, of a series that there is.
-#[tactic(auto, using(crate::proofs::Reading::sum_none, crate::proofs::Reading::sum_more, crate::proofs::Reading::bit_more, crate::proofs::Reading::bit_small))]
+#[tactic(auto, using(crate::proofs::Reading::sum_part, crate::proofs::Reading::bit_more, crate::proofs::Reading::bit_small))]
 fn holders_in(columns: &Seen<'_>, series: u32) -> u8
     requires { (place_count ≤ length columns.now.kinds.now) × (series < series_count) }
     ensures { result ≡ holder_set (series_at (seen columns.now) series) }
 {
     let mut set: u32 = 0;
     let mut bit: u32 = 1;
-    // by its number, which its bit and its place are counted from
-    for n in 0..STATIONS {
-        set = set + if_held(columns.kinds[series as usize * STATIONS + n], bit);
-        bit = bit * 2;
+    let row = series as usize * STATIONS;
+    for kind in &columns.kinds[row..row + STATIONS] {
+        set += if_held(*kind, bit);
+        bit *= 2;
     }
     set as u8
 }

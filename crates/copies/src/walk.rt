@@ -103,7 +103,7 @@ fn at_most(columns: &Seen<'_>, s: usize, n: usize) -> bool
     ensures { result ≡ W3_at_most (series_at (seen columns.now) s) n }
 {
     let mut all = true;
-    // by its number, for two columns
+    // by its number, for two columns: both parts would have to be cut first, which is no plainer
     for m in 0..STATIONS {
         let got = columns.received[(s * STATIONS + n) * STATIONS + m];
         all = all & (got <= columns.sent[s * STATIONS + m]);
@@ -156,11 +156,12 @@ fn kept_at(columns: &Seen<'_>, s: usize, n: usize) -> Kept
     }
 }
 
-// The tokens counted so far: how many of each kind, the value of the last (0: none yet), and whether all had the same value.
+// The tokens counted so far: how many of each kind, the value of the last, and whether all had the same value.
 #[derive(Clone, Copy)]
 struct Tally {
     exclusives: u32,
     shares: u32,
+    // 0 for none yet: W1 has no value 0 in an open series
     next: Serial,
     same: bool,
 }
@@ -252,6 +253,7 @@ fn broken_rule(columns: &Seen<'_>) -> Option<Rule>
     ensures { result ≡ broken_in (seen columns.now) }
 {
     let mut broken = None;
+    // 01 asks for this form: nested loops over series and stations, left by a label with the broken rule
     'walk: for s in 0..SERIES {
         let first = columns.firsts[s];
         let last = columns.lasts[s];
