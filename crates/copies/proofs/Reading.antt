@@ -14,7 +14,7 @@ use Rattle.words.specs.Numbers.{station_count, series_count, place_count}
 use Rattle.words.specs.Tests.{non, ◌or◌, sum_below, some_below}
 use Rattle.words.proofs.Laws.{or_true, some_none, some_end}
 use Rattle.copies.proofs.Guards.{and_is, chain}
-use Rattle.copies.specs.Tables.{Copies, series_at, place, is_open, is_up, kind, value}
+use Rattle.copies.specs.Tables.{Copies, series_at, place, is_open, kind, value}
 use Rattle.copies.specs.Steps.{is_beyond}
 use Rattle.copies.specs.Calls.{read, bad_copy, beyond}
 
@@ -41,10 +41,6 @@ pub ruleset ways = (read_short, read_bad, read_at, chain)
 -- whether a series is open
 pub read_open : (t : Copies) (s : ℕ) (r : Bool) → series_count ≤ length t.firsts → s < series_count → r ≡ non (eqb (read series_count t.firsts (leb series_count s) s) 0) → r ≡ is_open (series_at t s)
 read_open t s r l h e = rw (read_at series_count t.firsts (leb series_count s) s l (lt-leb _ _ h)) e
-
--- whether a station is up
-pub read_up : (t : Copies) (n : ℕ) (r : Bool) → station_count ≤ length t.up → n < station_count → r ≡ eqb (read station_count t.up (leb station_count n) n) 1 → r ≡ is_up t n
-read_up t n r l h e = rw (read_at station_count t.up (leb station_count n) n l (lt-leb _ _ h)) e
 
 -- there is such a copy: no refusal 3
 pub copy_good : (s n : ℕ) → s < series_count → n < station_count → bad_copy s n ≡ false
@@ -88,6 +84,7 @@ some_more f n = rw (add-one n)
 
 -- a turn more of a sum, or of a search, over a part of a column
 pub ruleset sum_part = (sum_none, sum_more, get_or-take, get_or-drop)
+
 pub ruleset some_part = (some_none, some_more, some_end, and_is, non_is, get_or-take, get_or-drop)
 
 -- the next station's bit

@@ -1,5 +1,5 @@
 -- The layer's calls: for each event of "The seventeen events" in 01 that changes copies, transfers or marks, its refusals in the order
--- of the checks and its accepted step. A call asks SHORT only of the columns lent to it; whether the tables are whole is not asked here.
+-- of the checks and its accepted step. A call asks SHORT only of the columns that it uses; whether the tables are whole is not asked here.
 -- Where an event needs to know that no job locks the copy, the caller says so: `free`.
 -- Assumes nothing.
 use Rattle.std.specs.Prelude.{ℕ, ◌+◌, Bool, cond, List, [], eqb, ltb, leb, length, get_or, Ok, Err}
@@ -134,7 +134,7 @@ raise_in t s n count =
     (refuse t Range (ltb (greatest_serial + 1) (value (series_at t s) n + count))
     (done 0 (raised t s n count)))
 
--- ---- the calls, over the columns that each is lent
+-- ---- the calls, over the columns that each uses
 -- a column of OPEN is short
 unfoldable pub short_opener : Copies → Bool
 short_opener t =

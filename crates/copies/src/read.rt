@@ -11,7 +11,7 @@ ghost use Rattle.copies.specs.Steps.{holder_set};
 ghost use Rattle.copies.specs.Calls.{read, bad_copy, beyond, holders};
 
 use crate::Seen;
-use crate::checks::bad_copy;
+use crate::checks::{bad_copy, place};
 use crate::series::is_beyond;
 use words::{PLACES, SERIES, STATIONS, Serial, VOID};
 
@@ -25,7 +25,7 @@ fn entry(column: &[u32], series: u32, station: u32) -> u32
     if bad_copy(series, station) {
         return 0;
     }
-    column[series as usize * STATIONS + station as usize]
+    column[place(series, station)]
 }
 
 // The kind of a station's copy.
@@ -83,7 +83,7 @@ pub fn beyond(columns: &Seen<'_>, series: u32, station: u32, count: Serial) -> b
     }
     is_beyond(
         columns.lasts[series as usize],
-        columns.values[series as usize * STATIONS + station as usize],
+        columns.values[place(series, station)],
         count,
     )
 }

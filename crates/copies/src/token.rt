@@ -1,4 +1,5 @@
 // DEMOTE, DROP and PROMOTE: a station changes the kind of its own copy.
+// The lengths stand column by column: a call asks SHORT only of the columns that it uses, and `Long` would ask for all ten.
 ghost use Rattle.std.specs.Prelude.{◌≡◌, ◌<◌, ◌≤◌, length};
 ghost use Rattle.words.specs.Numbers.{station_count, series_count, place_count, received_count};
 ghost use Rattle.copies.specs.Columns.{lent, SameColumns};
