@@ -16,14 +16,13 @@ use words::{
     STATIONS, Serial, VOID,
 };
 
-// Whether so many entries of a column are 0, from one on.
+// Whether each entry of a part of a column is 0.
 #[tactic(auto, using(words::proofs::Laws::all_loop))]
-fn zeros(column: &[u32], from: usize, count: usize) -> bool
-    requires { from + count ≤ length column.now }
-    ensures { result ≡ all_below count (λ i. eqb (get_or column.now (from + i) 0) 0) }
+fn zeros(part: &[u32]) -> bool
+    ensures { result ≡ all_below (length part.now) (λ i. eqb (get_or part.now i 0) 0) }
 {
     let mut all = true;
-    for entry in &column[from..from + count] {
+    for entry in part {
         all = all & (*entry == 0);
     }
     all
@@ -236,13 +235,14 @@ fn closed_fine(columns: &Seen<'_>, s: usize) -> bool
     ensures { result ≡ W5_closed (series_at (seen columns.now) s) }
 {
     let row = s * STATIONS;
-    let rows = zeros(columns.kinds, row, STATIONS)
-        & zeros(columns.values, row, STATIONS)
-        & zeros(columns.sent, row, STATIONS)
-        & zeros(columns.relto, row, STATIONS)
-        & zeros(columns.relkind, row, STATIONS)
-        & zeros(columns.relvalue, row, STATIONS)
-        & zeros(columns.received, row * STATIONS, STATIONS * STATIONS);
+    let end = row + STATIONS;
+    let rows = zeros(&columns.kinds[row..end])
+        & zeros(&columns.values[row..end])
+        & zeros(&columns.sent[row..end])
+        & zeros(&columns.relto[row..end])
+        & zeros(&columns.relkind[row..end])
+        & zeros(&columns.relvalue[row..end])
+        & zeros(&columns.received[row * STATIONS..end * STATIONS]);
     (columns.lasts[s] == 0) & rows
 }
 
