@@ -134,7 +134,7 @@ raise_in t s n count =
     (refuse t Range (ltb (greatest_serial + 1) (value (series_at t s) n + count))
     (done 0 (raised t s n count)))
 
--- ---- the calls, over the columns that each is lent
+-- ---- the calls, over the columns that each uses
 -- a column of OPEN is short
 unfoldable pub short_opener : Copies → Bool
 short_opener t =

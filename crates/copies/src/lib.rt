@@ -14,15 +14,18 @@ mod series;
 mod station;
 mod token;
 mod transfer;
+mod walk;
 
 pub use read::{beyond, holders, is_open, is_up, kind, value};
 pub use series::{open_series, raise};
 pub use station::{crash, restart};
 pub use token::{demote, drop, promote};
 pub use transfer::{ack, grant, send, share};
+pub use walk::first_broken;
 
 // The layer's tables, a column each: the bounds of each series; the kind and value of each copy; sent counts; the receiver, kind and value of
 // each Release; received numbers; the stations' marks. A column may be of any length; one that is too short is refusal 1, and extra entries stay.
+// Slices side by side, and not one of records: C lends each column by itself.
 #[derive(Drop)]
 pub struct Columns<S> {
     pub firsts: S,
@@ -73,7 +76,3 @@ pub struct Kept {
     pub relkind: u32,
     pub relvalue: Serial,
 }
-
-mod walk;
-
-pub use walk::first_broken;

@@ -11,7 +11,7 @@ ghost use Rattle.copies.specs.Steps.{holder_set};
 ghost use Rattle.copies.specs.Calls.{read, bad_copy, beyond, holders};
 
 use crate::Seen;
-use crate::checks::bad_copy;
+use crate::checks::{bad_copy, place};
 use crate::series::is_beyond;
 use words::{PLACES, SERIES, STATIONS, Serial, VOID};
 
@@ -25,7 +25,7 @@ fn entry(column: &[u32], series: u32, station: u32) -> u32
     if bad_copy(series, station) {
         return 0;
     }
-    column[series as usize * STATIONS + station as usize]
+    column[place(series, station)]
 }
 
 // The kind of a station's copy.
@@ -83,7 +83,7 @@ pub fn beyond(columns: &Seen<'_>, series: u32, station: u32, count: Serial) -> b
     }
     is_beyond(
         columns.lasts[series as usize],
-        columns.values[series as usize * STATIONS + station as usize],
+        columns.values[place(series, station)],
         count,
     )
 }
@@ -118,17 +118,17 @@ pub fn is_undelivered(
 }
 
 // The set, of a series that there is.
-#[tactic(auto, using(crate::proofs::Reading::sum_none, crate::proofs::Reading::sum_more, crate::proofs::Reading::bit_more, crate::proofs::Reading::bit_small))]
+#[tactic(auto, using(crate::proofs::Reading::sum_part, crate::proofs::Reading::bit_more, crate::proofs::Reading::bit_small))]
 fn holders_in(columns: &Seen<'_>, series: u32) -> u8
     requires { (place_count ≤ length columns.now.kinds.now) × (series < series_count) }
     ensures { result ≡ holder_set (series_at (seen columns.now) series) }
 {
     let mut set: u32 = 0;
     let mut bit: u32 = 1;
-    // by its number, which its bit and its place are counted from
-    for n in 0..STATIONS {
-        set = set + if_held(columns.kinds[series as usize * STATIONS + n], bit);
-        bit = bit * 2;
+    let row = series as usize * STATIONS;
+    for kind in &columns.kinds[row..row + STATIONS] {
+        set += if_held(*kind, bit);
+        bit *= 2;
     }
     set as u8
 }

@@ -4,7 +4,7 @@ ghost use Rattle.copies.specs.Columns.{lent, SameColumns};
 ghost use Rattle.copies.specs.Calls.{outcome, short_opener, open_series, raise};
 
 use crate::Lent;
-use crate::checks::{bad_copy, bad_opening};
+use crate::checks::{bad_copy, bad_opening, place};
 use words::{Answer, EXCLUSIVE, GREATEST_SERIAL, PLACES, Refusal, SERIES, STATIONS, Serial, VOID};
 
 // Whether a column of OPEN is short.
@@ -77,7 +77,7 @@ pub fn raise(columns: &mut Lent<'_>, series: u32, station: u32, count: Serial) -
     if bad_copy(series, station) {
         return Err(Refusal::BadEvent);
     }
-    let at = series as usize * STATIONS + station as usize;
+    let at = place(series, station);
     let value = columns.values[at];
     if is_beyond(columns.lasts[series as usize], value, count) {
         return Err(Refusal::Range);

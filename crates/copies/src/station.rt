@@ -39,7 +39,7 @@ fn held_count(columns: &Lent<'_>, station: u32) -> u32
     let mut count = 0;
     // by its number: the copies of one station stand eight apart
     for s in 0..SERIES {
-        count = count + if_held(columns.kinds[s * STATIONS + station as usize], 1);
+        count += if_held(columns.kinds[s * STATIONS + station as usize], 1);
     }
     count
 }

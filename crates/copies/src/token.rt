@@ -1,4 +1,5 @@
 // DEMOTE, DROP and PROMOTE: a station changes the kind of its own copy.
+// The lengths stand column by column: a call asks SHORT only of the columns that it uses, and `Long` would ask for all ten.
 ghost use Rattle.std.specs.Prelude.{◌≡◌, ◌<◌, ◌≤◌, length};
 ghost use Rattle.words.specs.Numbers.{station_count, series_count, place_count, received_count};
 ghost use Rattle.copies.specs.Columns.{lent, SameColumns};
@@ -39,16 +40,16 @@ pub fn demote(columns: &mut Lent<'_>, free: bool, series: u32, station: u32) -> 
 
 // Whether another station holds a share copy.
 // A `for`: under `any` the closure needs a `requires` for its index, and is no plainer.
-#[tactic(auto, using(words::proofs::Laws::some_none, words::proofs::Laws::some_end))]
+#[tactic(auto, using(crate::proofs::Reading::some_part))]
 fn other_share(columns: &Lent<'_>, series: u32, station: u32) -> bool
     requires kind { place_count ≤ length columns.now.kinds.now }
     requires there { series < series_count }
     ensures { result ≡ other_share (series_at (lent columns.now) series) station }
 {
+    let row = series as usize * STATIONS;
     let mut some = false;
-    for n in 0..STATIONS {
-        some = some
-            | ((n != station as usize) & (columns.kinds[series as usize * STATIONS + n] == SHARE));
+    for (n, kind) in columns.kinds[row..row + STATIONS].iter().enumerate() {
+        some = some | ((n != station as usize) & (*kind == SHARE));
     }
     some
 }
@@ -74,7 +75,7 @@ pub fn drop(columns: &mut Lent<'_>, free: bool, series: u32, station: u32) -> An
     Ok(0)
 }
 
-// Whether a transfer of the series is undelivered; a `for` for the same reason.
+// Whether a transfer of the series is undelivered.
 #[tactic(auto, using(words::proofs::Laws::some_none, words::proofs::Laws::some_next, words::proofs::Laws::some_end))]
 fn under_way(columns: &Lent<'_>, series: u32) -> bool
     requires sent { place_count ≤ length columns.now.sent.now }
@@ -85,6 +86,7 @@ fn under_way(columns: &Lent<'_>, series: u32) -> bool
     ensures { result ≡ under_way (series_at (lent columns.now) series) }
 {
     let mut some = false;
+    // by its number, for three columns
     for n in 0..STATIONS {
         let at = series as usize * STATIONS + n;
         some = some

@@ -1,4 +1,5 @@
 // SEND, SHARE, GRANT and ACK: a token goes from station to station by a Release, a message and an acknowledgment.
+// The lengths stand column by column: a call asks SHORT only of the columns that it uses, and `Long` would ask for all ten.
 ghost use Rattle.std.specs.Prelude.{◌≡◌, ◌+◌, ◌<◌, ◌≤◌, length};
 ghost use Rattle.words.specs.declared.Refusal.TheVariants.{Wait, Spent};
 ghost use Rattle.words.specs.Numbers.{station_count, series_count, place_count};
@@ -8,7 +9,7 @@ ghost use Rattle.copies.specs.Steps.{is_spent, matches, released};
 ghost use Rattle.copies.specs.Calls.{outcome, refuse, done, bad_transfer, bad_message, short_sender, short_receiver, short_source, send, send_share, grant, ack};
 
 use crate::Lent;
-use crate::checks::{bad_message, bad_transfer, copy_of_kind};
+use crate::checks::{bad_message, bad_transfer, copy_of_kind, open_and_up, place};
 use words::{
     Answer, EXCLUSIVE, GREATEST_SENT, PLACES, RECEIVED, Refusal, SERIES, SHARE, STATIONS, VOID,
 };
@@ -44,7 +45,7 @@ fn release(columns: &mut Lent<'_>, series: u32, from: u32, to: u32, kind: u32) -
         (done (sent_count (series_at (lent columns.old) series) from + 1)
         (released (lent columns.old) series from to kind))) }
 {
-    let at = series as usize * STATIONS + from as usize;
+    let at = place(series, from);
     if columns.relkind[at] != 0 {
         return Err(Refusal::Wait);
     }
@@ -120,7 +121,7 @@ fn matches(columns: &Lent<'_>, series: u32, from: u32, to: u32, number: u32) -> 
     requires there { (series < series_count) × (from < station_count) }
     ensures { result ≡ matches (series_at (lent columns.now) series) from to number }
 {
-    let at = series as usize * STATIONS + from as usize;
+    let at = place(series, from);
     (columns.relkind[at] != 0) & (columns.relto[at] == to) & (columns.sent[at] == number)
 }
 
@@ -137,14 +138,9 @@ pub fn grant(columns: &mut Lent<'_>, series: u32, from: u32, to: u32, number: u3
     if bad_message(series, from, to, number) {
         return Err(Refusal::BadEvent);
     }
-    if columns.firsts[series as usize] == 0 {
-        return Err(Refusal::None);
-    }
-    if columns.up[to as usize] != 1 {
-        return Err(Refusal::Down);
-    }
-    let source = series as usize * STATIONS + from as usize;
-    let at = series as usize * STATIONS + to as usize;
+    open_and_up(columns, series, to)?;
+    let source = place(series, from);
+    let at = place(series, to);
     if number <= columns.received[at * STATIONS + from as usize] {
         return Ok(0);
     }
@@ -184,20 +180,15 @@ pub fn ack(columns: &mut Lent<'_>, series: u32, from: u32, to: u32, number: u32)
     if bad_message(series, from, to, number) {
         return Err(Refusal::BadEvent);
     }
-    if columns.firsts[series as usize] == 0 {
-        return Err(Refusal::None);
-    }
-    if columns.up[from as usize] != 1 {
-        return Err(Refusal::Down);
-    }
-    let at = series as usize * STATIONS + from as usize;
+    open_and_up(columns, series, from)?;
+    let at = place(series, from);
     if columns.sent[at] < number {
         return Err(Refusal::NoMessage);
     }
     if !matches(columns, series, from, to, number) {
         return Ok(0);
     }
-    let receiver = series as usize * STATIONS + to as usize;
+    let receiver = place(series, to);
     if columns.received[receiver * STATIONS + from as usize] < number {
         return Err(Refusal::NoMessage);
     }

@@ -16,14 +16,13 @@ use words::{
     STATIONS, Serial, VOID,
 };
 
-// Whether so many entries of a column are 0, from one on.
+// Whether each entry of a part of a column is 0.
 #[tactic(auto, using(words::proofs::Laws::all_loop))]
-fn zeros(column: &[u32], from: usize, count: usize) -> bool
-    requires { from + count ≤ length column.now }
-    ensures { result ≡ all_below count (λ i. eqb (get_or column.now (from + i) 0) 0) }
+fn zeros(part: &[u32]) -> bool
+    ensures { result ≡ all_below (length part.now) (λ i. eqb (get_or part.now i 0) 0) }
 {
     let mut all = true;
-    for entry in &column[from..from + count] {
+    for entry in part {
         all = all & (*entry == 0);
     }
     all
@@ -103,7 +102,7 @@ fn at_most(columns: &Seen<'_>, s: usize, n: usize) -> bool
     ensures { result ≡ W3_at_most (series_at (seen columns.now) s) n }
 {
     let mut all = true;
-    // by its number, for two columns
+    // by its number, for two columns: both parts would have to be cut first, which is no plainer
     for m in 0..STATIONS {
         let got = columns.received[(s * STATIONS + n) * STATIONS + m];
         all = all & (got <= columns.sent[s * STATIONS + m]);
@@ -156,11 +155,12 @@ fn kept_at(columns: &Seen<'_>, s: usize, n: usize) -> Kept
     }
 }
 
-// The tokens counted so far: how many of each kind, the value of the last (0: none yet), and whether all had the same value.
+// The tokens counted so far: how many of each kind, the value of the last, and whether all had the same value.
 #[derive(Clone, Copy)]
 struct Tally {
     exclusives: u32,
     shares: u32,
+    // 0 for none yet: W1 has no value 0 in an open series
     next: Serial,
     same: bool,
 }
@@ -235,13 +235,14 @@ fn closed_fine(columns: &Seen<'_>, s: usize) -> bool
     ensures { result ≡ W5_closed (series_at (seen columns.now) s) }
 {
     let row = s * STATIONS;
-    let rows = zeros(columns.kinds, row, STATIONS)
-        & zeros(columns.values, row, STATIONS)
-        & zeros(columns.sent, row, STATIONS)
-        & zeros(columns.relto, row, STATIONS)
-        & zeros(columns.relkind, row, STATIONS)
-        & zeros(columns.relvalue, row, STATIONS)
-        & zeros(columns.received, row * STATIONS, STATIONS * STATIONS);
+    let end = row + STATIONS;
+    let rows = zeros(&columns.kinds[row..end])
+        & zeros(&columns.values[row..end])
+        & zeros(&columns.sent[row..end])
+        & zeros(&columns.relto[row..end])
+        & zeros(&columns.relkind[row..end])
+        & zeros(&columns.relvalue[row..end])
+        & zeros(&columns.received[row * STATIONS..end * STATIONS]);
     (columns.lasts[s] == 0) & rows
 }
 
@@ -252,6 +253,7 @@ fn broken_rule(columns: &Seen<'_>) -> Option<Rule>
     ensures { result ≡ broken_in (seen columns.now) }
 {
     let mut broken = None;
+    // 01 asks for this form: nested loops over series and stations, left by a label with the broken rule
     'walk: for s in 0..SERIES {
         let first = columns.firsts[s];
         let last = columns.lasts[s];

@@ -6,6 +6,6 @@ use Rattle.copies.specs.Columns.{seen}
 use Rattle.copies.specs.Tables.{series_at, held}
 use Rattle.copies.proofs.read.holders_in.Given as goal
 
-abbrev pub invariant-loop-n : goal.invariant-loop-n
-invariant-loop-n l =
-    (l.bit ≡ 2 ^ l.n) × (l.set < l.bit) × (l.set ≡ sum_below l.n (λ m. one_if (held (series_at (seen l.columns) l.series) m) * 2 ^ m))
+abbrev pub invariant-loop-kind : goal.invariant-loop-kind
+invariant-loop-kind l =
+    (l.bit ≡ 2 ^ l.kind-index) × (l.set < l.bit) × (l.set ≡ sum_below l.kind-index (λ m. one_if (held (series_at (seen l.columns) l.series) m) * 2 ^ m))

@@ -1,6 +1,5 @@
 -- `zeros` meets its contract: the entries gone over so far have been tested.
 -- Assumes nothing.
-use Prim.Native.Nat.{◌+◌}
 use mathlib.Core.Path.{◌≡◌}
 use lib.ListN.{get_or}
 use lib.Dec.{eqb}
@@ -8,4 +7,4 @@ use Rattle.words.specs.Tests.{all_below}
 use Rattle.copies.proofs.walk.zeros.Given as goal
 
 abbrev pub invariant-loop-entry : goal.invariant-loop-entry
-invariant-loop-entry l = l.all ≡ all_below l.entry-index (λ k. eqb (get_or l.column (l.from + k) 0) 0)
+invariant-loop-entry l = l.all ≡ all_below l.entry-index (λ k. eqb (get_or l.part k 0) 0)
