@@ -1,4 +1,4 @@
--- The step without the whole check: what the calls of the two layers come to, in any tables. A call asks SHORT only of the columns lent to it.
+-- The step without the whole check: what the calls of the two layers come to, in any tables. A call asks SHORT only of the columns that it uses.
 -- In whole tables this is the step of the rulebook (`SameInWhole`).
 -- Assumes nothing.
 use Rattle.std.specs.Prelude.{ℕ, ◌≡◌, Bool, true, false, cond, ◌&&◌, ◌||◌, List, eqb, ltb, leb, Err}

@@ -1,5 +1,5 @@
 -- The layer's calls: for each event of "The seventeen events" in 01 that a job takes part in, its refusals in the order of the checks
--- and its accepted step. A call asks SHORT only of the columns lent to it. Whether the tables are whole is not asked; where the numbers of
+-- and its accepted step. A call asks SHORT only of the columns that it uses. Whether the tables are whole is not asked; where the numbers of
 -- a READ or a COMMIT don't fit, as they do in whole tables, the refusal is NOT WHOLE.
 -- Assumes nothing.
 use Rattle.std.specs.Prelude.{ℕ, ◌+◌, Bool, true, List, eqb, ltb, leb, set, length, Ok, Err}

@@ -8,7 +8,7 @@ use Rattle.rulebook.specs.Tables.{plant}
 use Rattle.rulebook.specs.Steps.{Effect}
 use Rattle.rulebook.specs.Around.{emptied_copies}
 
--- the answer and the slots that it gives back, the columns; no draws
+-- the answer and the slots, the columns; no draws
 abbrev pub made : Stepped → Copies → Effect
 made r t = record { answer = r.answer; plant = plant t r.jobs; draws = [] }
 

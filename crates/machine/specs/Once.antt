@@ -14,13 +14,13 @@ use Rattle.events.specs.Calls.{left}
 use Rattle.events.specs.Unchecked.{unchecked_step}
 use Rattle.machine.specs.Calls.{made, Cleared, cleared, clear_of}
 
--- What `step` leaves: what it gives back, the columns, the output.
+-- What `step` leaves: its answer and the slots, the columns, the output.
 pub record Left : Type 0 where
   pub stepped : Stepped
   pub copies : Copies
   pub out : List ℕ
 
--- What `empty` leaves: what it gives back, the columns.
+-- What `empty` leaves: its answer and the slots, the columns.
 pub record Made : Type 0 where
   pub stepped : Stepped
   pub copies : Copies

@@ -1,4 +1,4 @@
-// The machine over sixteen job slots by value: an empty plant, a step, the holders of a series. Every call takes any columns and any event, and
+// The machine over sixteen lent job slots: an empty plant, a step, the holders of a series. Every call takes any columns and any event, and
 // answers as the rulebook says. The program uses these calls; those over a lent table of slots stand on them.
 #![tactic(auto)]
 
