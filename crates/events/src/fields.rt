@@ -48,6 +48,7 @@ fn no_number(number: Serial) -> bool
 }
 
 // Whether an event is bad: the kind says which fields it has, and zeros stand in the rest.
+#[tactic(auto, using(crate::proofs::BadEvents::bad_kinds))]
 pub fn is_bad(event: Event) -> bool
     ensures { (p : Plant) → result ≡ BAD_EVENT p event }
 {
