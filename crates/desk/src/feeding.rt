@@ -59,6 +59,7 @@ fn say(desk: &OpenDesk<'_>, said: Judged, out: &mut [u8], at: usize) -> usize
 {
     // no more of the output is shown than there is of it
     let shown = &desk.row[..said.shown.min(desk.row.len())];
+    // proved never to fail: the room is there
     write_answer(out, at, desk.number, said.answer, shown).unwrap()
 }
 
@@ -105,6 +106,7 @@ pub fn feed(desk: &mut OpenDesk<'_>, text: &[u8], out: &mut [u8]) -> Fed
 {
     let mut start = 0;
     let mut at = 0;
+    // goes on while a line is found: positions, not an index counted by hand
     while let Some(line) = whole_line(text, start, out.len() - at, desk.number) {
         at = answer(desk, &text[line.start..line.end], out, at);
         start = line.next;

@@ -1,4 +1,4 @@
-// What is kept between two pieces: the bytes of a line that has not ended.
+// What is kept between two pieces: the bytes of a line that has not ended. The promises speak of the whole bytes and of positions in them.
 ghost use Rattle.std.specs.Prelude.{◌≡◌, length};
 ghost use Rattle.std.proofs.lemmas.List.Edits.{sets};
 ghost use Rattle.desk.specs.Calls.{kept};

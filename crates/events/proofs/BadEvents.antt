@@ -285,3 +285,26 @@ module _ (p : Plant) (e : Event) where
   bad_rest r z =
       let l = others_past RESTART e.kind r z in
       rw (le-leb 1 e.kind (omega arith), lt-leb e.kind 17 l)
+
+-- refusal 3, whatever the kind
+pub ruleset bad_kinds = (
+  bad_OPEN,
+  bad_BEGIN,
+  bad_LOCKX,
+  bad_LOCKS,
+  bad_DRAW,
+  bad_READ,
+  bad_COMMIT,
+  bad_ABORT,
+  bad_SEND,
+  bad_DEMOTE,
+  bad_SHARE,
+  bad_DROP,
+  bad_PROMOTE,
+  bad_GRANT,
+  bad_ACK,
+  bad_CRASH,
+  bad_RESTART,
+  bad_none,
+  bad_rest,
+)

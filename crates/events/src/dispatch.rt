@@ -26,11 +26,7 @@ fn copy_event(columns: &mut Lent<'_>, free: bool, event: Event) -> Answer
     ensures same { SameColumns columns.old columns.new }
     ensures leaves { outcome result (lent columns.new) ≡ copy_event (lent columns.old) free event }
 {
-    let kind = event.kind;
-    let a = event.a;
-    let b = event.b;
-    let c = event.c;
-    let d = event.d;
+    let Event { kind, a, b, c, d } = event;
     match kind {
         OPEN => copies::open_series(columns, a, b, c, d),
         SEND => copies::send(columns, free, a, b, c),
@@ -57,10 +53,7 @@ fn job_event(
     ensures leaves { (bs : List Job) → job.old ≡ job_at bs event.a → upper.outcome (upper.turned bs event.a (upper.turn result job.new)) (lent columns.new) out.new
         ≡ job_turn (lent columns.old) bs free out.old event }
 {
-    let kind = event.kind;
-    let a = event.a;
-    let b = event.b;
-    let c = event.c;
+    let Event { kind, a, b, c, .. } = event;
     match kind {
         BEGIN => jobs::begin(job, &columns.seen(), a, b),
         LOCKX => jobs::lock_exclusive(job, &columns.seen(), free, a, b),

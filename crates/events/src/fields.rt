@@ -48,14 +48,12 @@ fn no_number(number: Serial) -> bool
 }
 
 // Whether an event is bad: the kind says which fields it has, and zeros stand in the rest.
+#[tactic(auto, using(crate::proofs::BadEvents::bad_kinds))]
 pub fn is_bad(event: Event) -> bool
     ensures { (p : Plant) → result ≡ BAD_EVENT p event }
 {
-    let kind = event.kind;
-    let a = event.a;
-    let b = event.b;
-    let c = event.c;
-    let d = event.d;
+    let Event { kind, a, b, c, d } = event;
+    // 01 asks for this form: the kind as a local number, decided over seventeen cases with ranges for the rest
     match kind {
         OPEN => no_series(a) | (b == 0) | (c < b) | (GREATEST_SERIAL < c) | no_station(d),
         BEGIN => no_job(a) | no_station(b) | (c != 0) | (d != 0),

@@ -39,6 +39,7 @@ fn fits(job: Job, columns: &Seen<'_>) -> bool
     ensures { result ≡ fits columns.now.lasts.now columns.now.values.now job }
 {
     let mut all = true;
+    // a loop to the end, as in the walk
     for i in 0..LOCKS {
         all = all & draw_fits(job, columns, i);
     }

@@ -1,5 +1,5 @@
 // DRAW and READ: what a job does with the series that it locks. No serial leaves the machine here.
-#![tactic(auto, using(crate::proofs::OneSlot::turns), unfolding(crate::specs::Calls::draw, crate::specs::Calls::draw_in, crate::specs::Calls::read, crate::specs::Calls::read_in, words::specs::Tests::refuse_if, words::specs::Tests::non))]
+#![tactic(auto, using(crate::proofs::OneSlot::turns, crate::proofs::Places::places), unfolding(crate::specs::Calls::draw, crate::specs::Calls::draw_in, crate::specs::Calls::read, crate::specs::Calls::read_in, words::specs::Tests::refuse_if, words::specs::Tests::non))]
 
 ghost use Rattle.std.specs.Prelude.{◌≡◌, List};
 ghost use Rattle.copies.specs.Columns.{seen};
@@ -31,8 +31,11 @@ pub fn draw(job: &mut Job, columns: &Seen<'_>, slot: u32, series: u32, count: Se
     if !is_open(columns, series) | !job.is_open() {
         return Err(Refusal::None);
     }
-    let lock = job.lock_on(series);
-    if !job.locks_series(series) | (lock.mode != EXCLUSIVE) {
+    let Some(at) = job.lock_place(series) else {
+        return Err(Refusal::NoLock);
+    };
+    let lock = job.locks[at];
+    if lock.mode != EXCLUSIVE {
         return Err(Refusal::NoLock);
     }
     if lock.drawn != 0 {
@@ -58,10 +61,10 @@ pub fn read(job: Job, columns: &Seen<'_>, slot: u32, series: u32) -> Answer
     if !is_open(columns, series) | !job.is_open() {
         return Err(Refusal::None);
     }
-    if !job.locks_series(series) {
+    let Some(at) = job.lock_place(series) else {
         return Err(Refusal::NoLock);
-    }
-    let lock = job.lock_on(series);
+    };
+    let lock = job.locks[at];
     let next = value(columns, series, job.station);
     if GREATEST_SERIAL as u64 + 1 < next as u64 + lock.drawn as u64 {
         return Err(Refusal::NotWhole);

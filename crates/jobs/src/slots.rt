@@ -14,6 +14,7 @@ pub fn is_free(jobs: &[Job; JOBS], series: u32, station: u32) -> bool
     ensures { result ≡ free jobs.now series station }
 {
     let mut all = true;
+    // a loop to the end, as in the walk
     for job in jobs {
         all = all & !job.locks_copy(series, station);
     }

@@ -1,5 +1,7 @@
 // The walk over the sixteen slots that finds the first broken rule of the jobs: W1, W4 or W5.
 // Only the walk itself is left early: a test that runs its loop to the end is faster.
+// Private contracts repeat that the tables aren't short and the numbers in range: a struct that carries these facts would be made anew at each
+// call, which is no plainer.
 #![tactic(auto, using(crate::proofs::Ways::walking), unfolding(crate::specs::Whole::W1_lock, crate::specs::Whole::W1_job, crate::specs::Whole::W4_exclusive, crate::specs::Whole::W4_share, crate::specs::Whole::W4_differs, crate::specs::Whole::W4_lock, crate::specs::Whole::W4_locks, crate::specs::Whole::meets, crate::specs::Whole::W4_alone, crate::specs::Whole::W4_job, crate::specs::Whole::W5_lock, crate::specs::Whole::W5_job, crate::specs::FirstBroken::broken_job, crate::specs::FirstBroken::first_broken_job, crate::specs::FirstBroken::short_for_jobs, crate::specs::FirstBroken::check_jobs, copies::specs::FirstBroken::found_by, copies::specs::Calls::bad_copy, copies::specs::Calls::beyond, words::specs::Tests::non))]
 
 ghost use Rattle.std.specs.Prelude.{◌≡◌, List, cond, ℕ, false, ◌<◌, eqb};

@@ -1,4 +1,5 @@
-// Lines as they are printed: numbers with one space between, and LF.
+// Lines as they are printed: numbers with one space between, and LF. Out and a position in it stay two parameters: promises speak of the whole
+// bytes and of positions in them.
 ghost use Rattle.std.specs.Prelude.{◌≡◌, ◌∷◌, ◌+◌, ◌≤◌, length, IfSome};
 ghost use Rattle.digits.specs.Bytes.{space};
 ghost use Rattle.digits.specs.Printing.{decimal, wrote_at, written_at};
@@ -25,6 +26,7 @@ impl Pen<'_> {
         requires { fits self.old (decimal n) }
         ensures { Wrote self.old (decimal n) self.new }
     {
+        // proved never to fail: the room is there
         self.at = print_number(self.out, self.at, n).unwrap();
     }
 

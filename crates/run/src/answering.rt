@@ -12,6 +12,7 @@ pub fn answer_all<W: Write>(
     output: &mut W,
 ) -> io::Result<usize> {
     let mut used = 0;
+    // goes on while bytes are left: a position, not an index counted by hand
     while used < piece.len() {
         let fed = feed(desk, &piece[used..], out);
         if fed.used == 0 {

@@ -1,4 +1,4 @@
-// An answer by 01's number and value.
+// An answer by 01's number and value. Functions, since promises speak of `code_of` and `value_of`.
 ghost use Rattle.std.specs.Prelude.{◌≡◌};
 ghost use Rattle.words.specs.Answers.{code_of, value_of};
 
