@@ -1,5 +1,7 @@
 // DEMOTE, DROP and PROMOTE: a station changes the kind of its own copy.
 // The lengths stand column by column: a call asks SHORT only of the columns that it uses, and `Long` would ask for all ten.
+#![tactic(auto, using(crate::proofs::Guards::chain), unfolding(crate::specs::Calls::demote, crate::specs::Calls::demote_in, crate::specs::Calls::short_holder, crate::specs::Calls::bad_copy, crate::specs::Steps::demoted, words::specs::Tests::refuse_if, words::specs::Tests::non, crate::specs::Calls::drop, crate::specs::Calls::drop_in, crate::specs::Steps::dropped, crate::specs::Calls::promote, crate::specs::Calls::promote_in, crate::specs::Calls::short_promoter, crate::specs::Steps::promoted))]
+
 ghost use Rattle.std.specs.Prelude.{◌≡◌, ◌<◌, ◌≤◌, length};
 ghost use Rattle.words.specs.Numbers.{station_count, series_count, place_count, received_count};
 ghost use Rattle.copies.specs.Columns.{lent, SameColumns};
@@ -21,7 +23,6 @@ fn short_holder(columns: &Lent<'_>) -> bool
 }
 
 // 10 DEMOTE: a free exclusive copy becomes share.
-#[tactic(auto, using(crate::proofs::Guards::chain), unfolding(crate::specs::Calls::demote, crate::specs::Calls::demote_in, crate::specs::Calls::short_holder, crate::specs::Calls::bad_copy, crate::specs::Steps::demoted, words::specs::Tests::refuse_if, words::specs::Tests::non))]
 pub fn demote(columns: &mut Lent<'_>, free: bool, series: u32, station: u32) -> Answer
     ensures same { SameColumns columns.old columns.new }
     ensures leaves { outcome result (lent columns.new)
@@ -55,7 +56,6 @@ fn other_share(columns: &Lent<'_>, series: u32, station: u32) -> bool
 }
 
 // 12 DROP: a free share copy, not the only one, becomes void.
-#[tactic(auto, using(crate::proofs::Guards::chain), unfolding(crate::specs::Calls::drop, crate::specs::Calls::drop_in, crate::specs::Calls::short_holder, crate::specs::Calls::bad_copy, crate::specs::Steps::dropped, words::specs::Tests::refuse_if, words::specs::Tests::non))]
 pub fn drop(columns: &mut Lent<'_>, free: bool, series: u32, station: u32) -> Answer
     ensures same { SameColumns columns.old columns.new }
     ensures leaves { outcome result (lent columns.new)
@@ -117,7 +117,6 @@ fn short_promoter(columns: &Lent<'_>) -> bool
 }
 
 // 13 PROMOTE: a free share copy, the only share of the series, becomes exclusive.
-#[tactic(auto, using(crate::proofs::Guards::chain), unfolding(crate::specs::Calls::promote, crate::specs::Calls::promote_in, crate::specs::Calls::short_promoter, crate::specs::Calls::bad_copy, crate::specs::Steps::promoted, words::specs::Tests::refuse_if, words::specs::Tests::non))]
 pub fn promote(columns: &mut Lent<'_>, free: bool, series: u32, station: u32) -> Answer
     ensures same { SameColumns columns.old columns.new }
     ensures leaves { outcome result (lent columns.new)

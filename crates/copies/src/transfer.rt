@@ -1,5 +1,7 @@
 // SEND, SHARE, GRANT and ACK: a token goes from station to station by a Release, a message and an acknowledgment.
 // The lengths stand column by column: a call asks SHORT only of the columns that it uses, and `Long` would ask for all ten.
+#![tactic(auto, using(crate::proofs::Guards::chain), unfolding(crate::specs::Steps::released, crate::specs::Steps::is_spent, words::specs::Tests::refuse_if, words::specs::Tests::non, crate::specs::Calls::send, crate::specs::Calls::send_in, crate::specs::Calls::short_sender, crate::specs::Calls::bad_transfer, crate::specs::Steps::sent_off, crate::specs::Calls::send_share, crate::specs::Calls::share_in, crate::specs::Steps::shared, crate::specs::Calls::grant, crate::specs::Calls::grant_in, crate::specs::Calls::short_receiver, crate::specs::Calls::bad_message, crate::specs::Steps::no_grant, crate::specs::Steps::is_repeat, crate::specs::Steps::arrived, crate::specs::Calls::ack, crate::specs::Calls::ack_in, crate::specs::Calls::short_source, crate::specs::Steps::no_ack, crate::specs::Steps::matches, crate::specs::Steps::deleted))]
+
 ghost use Rattle.std.specs.Prelude.{◌≡◌, ◌+◌, ◌<◌, ◌≤◌, length};
 ghost use Rattle.words.specs.declared.Refusal.TheVariants.{Wait, Spent};
 ghost use Rattle.words.specs.Numbers.{station_count, series_count, place_count};
@@ -30,7 +32,6 @@ fn short_sender(columns: &Lent<'_>) -> bool
 }
 
 // The next transfer of a copy: its sent count is raised, and a Release of the kind takes its value.
-#[tactic(auto, using(crate::proofs::Guards::chain), unfolding(crate::specs::Steps::released, crate::specs::Steps::is_spent, words::specs::Tests::refuse_if, words::specs::Tests::non))]
 fn release(columns: &mut Lent<'_>, series: u32, from: u32, to: u32, kind: u32) -> Answer
     requires values { place_count ≤ length columns.old.values.now }
     requires sent { place_count ≤ length columns.old.sent.now }
@@ -61,7 +62,6 @@ fn release(columns: &mut Lent<'_>, series: u32, from: u32, to: u32, kind: u32) -
 }
 
 // 9 SEND: a free exclusive copy becomes void, and a Release of kind 2 takes its value.
-#[tactic(auto, using(crate::proofs::Guards::chain), unfolding(crate::specs::Calls::send, crate::specs::Calls::send_in, crate::specs::Calls::short_sender, crate::specs::Calls::bad_transfer, crate::specs::Steps::sent_off, crate::specs::Steps::released, words::specs::Tests::refuse_if, words::specs::Tests::non))]
 pub fn send(columns: &mut Lent<'_>, free: bool, series: u32, from: u32, to: u32) -> Answer
     ensures same { SameColumns columns.old columns.new }
     ensures leaves { outcome result (lent columns.new)
@@ -80,7 +80,6 @@ pub fn send(columns: &mut Lent<'_>, free: bool, series: u32, from: u32, to: u32)
 }
 
 // 11 SHARE: from keeps its share copy, and a Release of kind 1 takes its value.
-#[tactic(auto, using(crate::proofs::Guards::chain), unfolding(crate::specs::Calls::send_share, crate::specs::Calls::share_in, crate::specs::Calls::short_sender, crate::specs::Calls::bad_transfer, crate::specs::Steps::shared, words::specs::Tests::refuse_if, words::specs::Tests::non))]
 pub fn share(columns: &mut Lent<'_>, series: u32, from: u32, to: u32) -> Answer
     ensures same { SameColumns columns.old columns.new }
     ensures leaves { outcome result (lent columns.new)
@@ -126,7 +125,6 @@ fn matches(columns: &Lent<'_>, series: u32, from: u32, to: u32, number: u32) -> 
 }
 
 // 14 GRANT: the transfer arrives, once; a repeat is known by its number alone.
-#[tactic(auto, using(crate::proofs::Guards::chain), unfolding(crate::specs::Calls::grant, crate::specs::Calls::grant_in, crate::specs::Calls::short_receiver, crate::specs::Calls::bad_message, crate::specs::Calls::bad_transfer, crate::specs::Steps::no_grant, crate::specs::Steps::is_repeat, crate::specs::Steps::arrived, words::specs::Tests::refuse_if, words::specs::Tests::non))]
 pub fn grant(columns: &mut Lent<'_>, series: u32, from: u32, to: u32, number: u32) -> Answer
     ensures same { SameColumns columns.old columns.new }
     ensures leaves { outcome result (lent columns.new)
@@ -168,7 +166,6 @@ fn short_source(columns: &Lent<'_>) -> bool
 }
 
 // 15 ACK: of a delivered transfer its standing Release is deleted; anything late is ignored (X7).
-#[tactic(auto, using(crate::proofs::Guards::chain), unfolding(crate::specs::Calls::ack, crate::specs::Calls::ack_in, crate::specs::Calls::short_source, crate::specs::Calls::bad_message, crate::specs::Calls::bad_transfer, crate::specs::Steps::no_ack, crate::specs::Steps::matches, crate::specs::Steps::deleted, words::specs::Tests::refuse_if, words::specs::Tests::non))]
 pub fn ack(columns: &mut Lent<'_>, series: u32, from: u32, to: u32, number: u32) -> Answer
     ensures same { SameColumns columns.old columns.new }
     ensures leaves { outcome result (lent columns.new)
