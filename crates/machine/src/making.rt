@@ -59,6 +59,6 @@ pub fn empty(jobs: &mut [Job; JOBS], columns: &mut Lent<'_>) -> Answer
     if !clear(columns) {
         return Err(Refusal::Short);
     }
-    *jobs = [jobs[0].close(); JOBS];
+    *jobs = [Job::default(); JOBS];
     Ok(0)
 }
