@@ -7,4 +7,4 @@ pub returns-then-not-clear-clause-leaves : goal.returns-then-not-clear-clause-le
 returns-then-not-clear-clause-leaves c = made_short _ _ _ _ c.clear.ensures.leaves c.if-not-clear.true
 
 pub returns-clause-leaves : goal.returns-clause-leaves
-returns-clause-leaves c = made_empty _ _ _ _ c.clear.ensures.leaves c.if-not-clear.false c.told-jobs c.default.ensures
+returns-clause-leaves c = made_empty _ _ _ _ c.clear.ensures.leaves c.if-not-clear.false c.told-jobs c.close-jobs.ensures
