@@ -1,11 +1,11 @@
 -- The holders of a series: a law for each way out of `holders_in` and of `holders`. Assumes nothing.
-use Prim.Native.Nat.{ℕ, ◌≤◌}
+use Prim.Native.Nat.{ℕ, ◌≤◌, ◌<◌}
 use mathlib.Core.Path.{◌≡◌, sym, ap, ◌∙◌}
 use mathlib.Core.Bool.{Bool, true, false, not}
 use mathlib.Core.List.{List}
 use lib.Dec.{eqb, leb}
 use lib.ListN.{length}
-use borrow.Author.Tests.{leb-false, le-ltb}
+use borrow.Author.Tests.{le-leb, lt-leb, le-ltb}
 use Rattle.words.specs.Answers.{refusal_of}
 use Rattle.words.specs.declared.Refusal.TheVariants.{BadEvent, None}
 use Rattle.std.specs.Prelude.{Result, Ok, Err}
@@ -35,29 +35,30 @@ set_right : (r : Series) (set : ℕ) → set ≡ holder_set r → by_set set ≡
 set_right r set e = rw (e, ones_set station_count (held r), zeros_set station_count (held r))
 
 -- refusal 3
-pub there_bad : (r : Series) (s : ℕ) (h : Holders) → leb series_count s ≡ true → h ≡ no_holders (Err BadEvent) → h ≡ holders_there r s
+pub there_bad : (r : Series) (s : ℕ) (h : Holders) → series_count ≤ s → h ≡ no_holders (Err BadEvent) → h ≡ holders_there r s
 unfolding holders_there
-there_bad r s h l e = rw l e
+there_bad r s h l e = rw (le-leb series_count s l) e
 
 -- what `is_open` says of a series
 abbrev said_open : Copies → ℕ → Bool
 said_open t s = non (eqb (read series_count t.firsts (leb series_count s) s) 0)
 
-module _ (t : Copies) (s : ℕ) (h : Holders) (o : Bool) (l : series_count ≤ length t.firsts) (small : leb series_count s ≡ false) (said : o ≡ said_open t s) where
+module _ (t : Copies) (s : ℕ) (h : Holders) (o : Bool) (l : series_count ≤ length t.firsts) (small : s < series_count) (said : o ≡ said_open t s) where
   -- refusal 5
   pub there_closed : not o ≡ true → h ≡ no_holders (Err None) → h ≡ holders_there (series_at t s) s
   unfolding holders_there
   there_closed flag e =
-      let shut = non_call_true o _ (read_open t s o l (leb-false _ _ small) said) flag in
-      rw (small, shut) e
+      let shut = non_call_true o _ (read_open t s o l small said) flag in
+      rw (lt-leb series_count s small, shut) e
 
   -- the set, its ones and its trailing zeros
   pub there_held : (set : ℕ) → place_count ≤ length t.kinds → not o ≡ false → set ≡ holders t.kinds s → h ≡ by_set set → h ≡ holders_there (series_at t s) s
   unfolding holders_there holders ◌or◌
   there_held set k flag e q =
-      let opened = non_call_false o _ (read_open t s o l (leb-false _ _ small) said) flag in
-      let all : set ≡ holder_set (series_at t s) = rw (le-ltb _ _ k, small) at e in
-      rw (small, opened) (q ∙ set_right (series_at t s) set all)
+      let opened = non_call_false o _ (read_open t s o l small said) flag in
+      let in_range = lt-leb series_count s small in
+      let all : set ≡ holder_set (series_at t s) = rw (le-ltb _ _ k, in_range) at e in
+      rw (in_range, opened) (q ∙ set_right (series_at t s) set all)
 
 -- ---- all tables
 module _ (t : Copies) (bs : List Job) (found : Result (Unit {0}) Flaw) (e : found ≡ check (plant t bs)) where

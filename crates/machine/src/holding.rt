@@ -42,12 +42,10 @@ fn holders_in(columns: &Seen<'_>, series: u32) -> Holders
     requires { (series_count ≤ length columns.now.firsts.now) × (place_count ≤ length columns.now.kinds.now) }
     ensures { result ≡ holders_there (series_at (seen columns.now) series) series }
 {
-    let missing = SERIES <= series as usize;
-    let opened = is_open(columns, series);
-    if missing {
+    if SERIES <= series as usize {
         return no_holders(Err(Refusal::BadEvent));
     }
-    if !opened {
+    if !is_open(columns, series) {
         return no_holders(Err(Refusal::None));
     }
     counted(copies::holders(columns, series))
