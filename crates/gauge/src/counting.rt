@@ -33,6 +33,7 @@ fn event_at(numbers: &[u32], i: usize) -> Event
 fn counts_for(answer: Answer) -> usize
     ensures { (result ≡ one_if (is_accepted answer)) × (result ≤ 1) }
 {
+    // by the paper's number, as `is_accepted` tests it: tried with `is_ok`, and the proof didn't close
     if code(answer) == 0 { 1 } else { 0 }
 }
 
@@ -46,7 +47,7 @@ pub fn count_accepted(
     ensures { result ≡ accepted_from numbers.now (event_count numbers.now) 0 (plant (lent columns.old) jobs.old) out.old }
 {
     let mut count = 0;
-    // by its number, as the definition counts the events
+    // by its number, as `accepted_from` counts the events
     for i in 0..numbers.len() / EVENT_SIZE {
         let event = event_at(numbers, i);
         count += counts_for(step_unchecked(jobs, columns, out, event));

@@ -13,6 +13,7 @@ use words::{JOBS, OUTPUT, PLACES, RECEIVED, SERIES, STATIONS, Serial};
 pub extern "C" fn gauge_accepted(numbers: &[u32]) -> usize
     ensures { result ≡ accepted_of numbers.now }
 {
+    // by `close`, which promises zeros: tried with `Job::default()`, and the proof didn't close
     let mut jobs = [Job::begun(0).close(); JOBS];
     let mut firsts: [Serial; SERIES] = [0; SERIES];
     let mut lasts: [Serial; SERIES] = [0; SERIES];

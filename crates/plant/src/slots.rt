@@ -13,7 +13,7 @@ use words::JOBS;
 fn unused() -> [Job; JOBS]
     ensures { result ≡ replicate job_count no_job }
 {
-    [Job::begun(0).close(); JOBS]
+    [Job::default(); JOBS]
 }
 
 // One slot is taken out.

@@ -39,7 +39,7 @@ pub fn answer_lines<R: Read, W: Write>(input: &mut R, output: &mut W) -> Result<
         received: &mut received,
         up: &mut up,
     };
-    let mut jobs = [Job::begun(0).close(); JOBS];
+    let mut jobs = [Job::default(); JOBS];
     // The columns have their sizes, so the empty plant is not refused.
     let _ = machine::empty(&mut jobs, &mut columns);
     let mut desk = OpenDesk {
