@@ -27,16 +27,36 @@ fn copy_event(columns: &mut Lent<'_>, free: bool, event: Event) -> Answer
     ensures leaves { outcome result (lent columns.new) ≡ copy_event (lent columns.old) free event }
 {
     let Event { kind, a, b, c, d } = event;
+    let firsts = &mut *columns.firsts;
+    let lasts = &mut *columns.lasts;
+    let kinds = &mut *columns.kinds;
+    let values = &mut *columns.values;
+    let sent = &mut *columns.sent;
+    let relto = &mut *columns.relto;
+    let relkind = &mut *columns.relkind;
+    let relvalue = &mut *columns.relvalue;
+    let received = &mut *columns.received;
+    let up = &mut *columns.up;
     match kind {
-        OPEN => copies::open_series(columns, a, b, c, d),
-        SEND => copies::send(columns, free, a, b, c),
-        DEMOTE => copies::demote(columns, free, a, b),
-        SHARE => copies::share(columns, a, b, c),
-        DROP => copies::drop(columns, free, a, b),
-        PROMOTE => copies::promote(columns, free, a, b),
-        GRANT => copies::grant(columns, a, b, c, d),
-        ACK => copies::ack(columns, a, b, c, d),
-        RESTART => copies::restart(columns, a),
+        OPEN => copies::open_series(firsts, lasts, kinds, values, up, a, b, c, d),
+        SEND => copies::send(
+            firsts, kinds, values, sent, relto, relkind, relvalue, up, free, a, b, c,
+        ),
+        DEMOTE => copies::demote(firsts, kinds, up, free, a, b),
+        SHARE => copies::share(
+            firsts, kinds, values, sent, relto, relkind, relvalue, up, a, b, c,
+        ),
+        DROP => copies::drop(firsts, kinds, up, free, a, b),
+        PROMOTE => copies::promote(
+            firsts, kinds, sent, relto, relkind, received, up, free, a, b,
+        ),
+        GRANT => copies::grant(
+            firsts, kinds, values, sent, relto, relkind, relvalue, received, up, a, b, c, d,
+        ),
+        ACK => copies::ack(
+            firsts, sent, relto, relkind, relvalue, received, up, a, b, c, d,
+        ),
+        RESTART => copies::restart(kinds, up, a),
         _ => Err(Refusal::BadEvent),
     }
 }
@@ -60,7 +80,10 @@ fn job_event(
         LOCKS => jobs::lock_share(job, &columns.seen(), a, b),
         DRAW => jobs::draw(job, &columns.seen(), a, b, c),
         READ => jobs::read(*job, &columns.seen(), a, b),
-        COMMIT => jobs::commit(job, columns, out, a),
+        COMMIT => {
+            let lasts = &mut *columns.lasts;
+            jobs::commit(job, lasts, columns.values, out, a)
+        }
         ABORT => jobs::abort(job, a),
         _ => Err(Refusal::BadEvent),
     }
@@ -95,7 +118,7 @@ fn crash_event(jobs: &mut [Job; JOBS], columns: &mut Lent<'_>, event: Event) -> 
         ≡ unchecked_step (plant (lent columns.old) jobs.old) out event }
 {
     if !is_bad(event) {
-        return jobs::crash(jobs, columns, event.a);
+        return jobs::crash(jobs, columns.up, event.a);
     }
     Err(Refusal::BadEvent)
 }

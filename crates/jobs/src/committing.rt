@@ -1,9 +1,9 @@
 // COMMIT: every count that the job has drawn is added to its copy's value, and the serials leave the machine.
 #![tactic(auto, using(crate::proofs::Stored::outcomes), unfolding(crate::specs::Calls::commit, crate::specs::Calls::commit_in, words::specs::Tests::refuse_if, words::specs::Tests::non))]
 
-ghost use Rattle.std.specs.Prelude.{◌≡◌, List, ◌+◌, ◌<◌, ◌≤◌, length};
+ghost use Rattle.std.specs.Prelude.{◌≡◌, List, ℕ, ◌+◌, ◌<◌, ◌≤◌, length};
 ghost use Rattle.words.specs.Numbers.{lock_count, out_count};
-ghost use Rattle.copies.specs.Columns.{lent, seen, SameColumns};
+ghost use Rattle.copies.specs.Tables.{tables};
 ghost use Rattle.jobs.specs.Draws.{draw_fits, fits};
 ghost use Rattle.jobs.specs.Store.{store, store_one, store_first};
 ghost use Rattle.jobs.specs.declared.Job.{Job};
@@ -12,8 +12,26 @@ ghost use Rattle.jobs.specs.Calls.{turn, turned, outcome, commit};
 
 use crate::walk::differs;
 use crate::{Job, Lock};
-use copies::{Lent, Seen, beyond, raise, value};
+use copies::{Seen, beyond, raise, value};
 use words::{Answer, GREATEST_SERIAL, JOBS, LOCKS, OUTPUT, PLACES, Refusal, SERIES, Serial};
+
+// The two columns that COMMIT uses, to be read.
+fn used<'a>(lasts: &'a [Serial], values: &'a [Serial]) -> Seen<'a>
+    ensures { (result.lasts.now ≡ lasts.now) × (result.values.now ≡ values.now) }
+{
+    Seen {
+        firsts: &[],
+        lasts,
+        kinds: &[],
+        values,
+        sent: &[],
+        relto: &[],
+        relkind: &[],
+        relvalue: &[],
+        received: &[],
+        up: &[],
+    }
+}
 
 // Whether what place i has drawn can be added to its copy's value: always so in whole tables.
 #[tactic(auto, using(copies::proofs::Guards::chain), unfolding(crate::specs::Draws::draw_fits, words::specs::Tests::non))]
@@ -49,53 +67,59 @@ fn fits(job: Job, columns: &Seen<'_>) -> bool
 // Stores what a lock has drawn: three numbers into the output, behind those of so many draws, and the sum into the copy. 1 if there was a draw, else 0.
 #[tactic(auto, using(crate::proofs::Stored::one_none, crate::proofs::Stored::one_stored))]
 fn store_one(
-    columns: &mut Lent<'_>,
+    lasts: &[Serial],
+    values: &mut [Serial],
     out: &mut [Serial],
     station: u32,
     lock: Lock,
     count: usize,
 ) -> usize
     requires { (out_count ≤ length out.old) × (count < lock_count) }
-    ensures same { SameColumns columns.old columns.new }
     ensures most { result ≤ 1 }
-    ensures leaves { store (count + result) (lent columns.new) out.new ≡ store_one station lock (store count (lent columns.old) out.old) }
+    ensures leaves { (fs ks ns rt rk rv gs us : List ℕ) → store (count + result) (tables fs lasts.now ks values.new ns rt rk rv gs us) out.new
+        ≡ store_one station lock (store count (tables fs lasts.now ks values.old ns rt rk rv gs us) out.old) }
 {
     let drawn = lock.drawn;
     if drawn == 0 {
         return 0;
     }
-    let first = value(&columns.seen(), lock.series, station);
+    let first = value(&used(lasts, values), lock.series, station);
     out[3 * count] = lock.series;
     out[3 * count + 1] = first;
     out[3 * count + 2] = drawn;
     // Never refused: `fits` has tested that the count can be added.
-    let _ = raise(columns, lock.series, station, drawn);
+    let _ = raise(lasts, values, lock.series, station, drawn);
     1
 }
 
 // Stores all that the job has drawn, in order of locking; how many draws there were.
 #[tactic(auto, using(crate::proofs::Stored::store_none, crate::proofs::Stored::store_next))]
-fn store_all(job: Job, columns: &mut Lent<'_>, out: &mut [Serial]) -> usize
+fn store_all(job: Job, lasts: &[Serial], values: &mut [Serial], out: &mut [Serial]) -> usize
     requires { out_count ≤ length out.old }
-    ensures same { SameColumns columns.old columns.new }
     ensures places { length job.locks ≡ lock_count }
     ensures most { result ≤ lock_count }
-    ensures leaves { store result (lent columns.new) out.new ≡ store_first job lock_count (store 0 (lent columns.old) out.old) }
+    ensures leaves { (fs ks ns rt rk rv gs us : List ℕ) → store result (tables fs lasts.now ks values.new ns rt rk rv gs us) out.new
+        ≡ store_first job lock_count (store 0 (tables fs lasts.now ks values.old ns rt rk rv gs us) out.old) }
 {
     let mut count = 0;
     for lock in &job.locks {
-        count += store_one(columns, out, job.station, *lock, count);
+        count += store_one(lasts, values, out, job.station, *lock, count);
     }
     count
 }
 
 // 7 COMMIT: each drawn count is added to the copy's value and shown in the output, and the job closes; the value is the number of draws.
-pub fn commit(job: &mut Job, columns: &mut Lent<'_>, out: &mut [Serial], slot: u32) -> Answer
-    ensures same { SameColumns columns.old columns.new }
-    ensures leaves { (bs : List Job) → job.old ≡ job_at bs slot → outcome (turned bs slot (turn result job.new)) (lent columns.new) out.new
-        ≡ commit (lent columns.old) bs out.old slot }
+pub fn commit(
+    job: &mut Job,
+    lasts: &[Serial],
+    values: &mut [Serial],
+    out: &mut [Serial],
+    slot: u32,
+) -> Answer
+    ensures { (fs ks ns rt rk rv gs us : List ℕ) (bs : List Job) → job.old ≡ job_at bs slot → outcome (turned bs slot (turn result job.new)) (tables fs lasts.now ks values.new ns rt rk rv gs us) out.new
+        ≡ commit (tables fs lasts.now ks values.old ns rt rk rv gs us) bs out.old slot }
 {
-    if (columns.lasts.len() < SERIES) | (columns.values.len() < PLACES) | (out.len() < OUTPUT) {
+    if (lasts.len() < SERIES) | (values.len() < PLACES) | (out.len() < OUTPUT) {
         return Err(Refusal::Short);
     }
     if JOBS <= slot as usize {
@@ -104,10 +128,10 @@ pub fn commit(job: &mut Job, columns: &mut Lent<'_>, out: &mut [Serial], slot: u
     if !job.is_open() {
         return Err(Refusal::None);
     }
-    if !fits(*job, &columns.seen()) {
+    if !fits(*job, &used(lasts, values)) {
         return Err(Refusal::NotWhole);
     }
-    let count = store_all(*job, columns, out);
+    let count = store_all(*job, lasts, values, out);
     *job = job.close();
     Ok(count as Serial)
 }

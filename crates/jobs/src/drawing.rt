@@ -31,11 +31,8 @@ pub fn draw(job: &mut Job, columns: &Seen<'_>, slot: u32, series: u32, count: Se
     if !is_open(columns, series) | !job.is_open() {
         return Err(Refusal::None);
     }
-    let Some(at) = job.lock_place(series) else {
-        return Err(Refusal::NoLock);
-    };
-    let lock = job.locks[at];
-    if lock.mode != EXCLUSIVE {
+    let lock = job.lock_on(series);
+    if !job.locks_series(series) | (lock.mode != EXCLUSIVE) {
         return Err(Refusal::NoLock);
     }
     if lock.drawn != 0 {
@@ -61,10 +58,10 @@ pub fn read(job: Job, columns: &Seen<'_>, slot: u32, series: u32) -> Answer
     if !is_open(columns, series) | !job.is_open() {
         return Err(Refusal::None);
     }
-    let Some(at) = job.lock_place(series) else {
+    if !job.locks_series(series) {
         return Err(Refusal::NoLock);
-    };
-    let lock = job.locks[at];
+    }
+    let lock = job.lock_on(series);
     let next = value(columns, series, job.station);
     if GREATEST_SERIAL as u64 + 1 < next as u64 + lock.drawn as u64 {
         return Err(Refusal::NotWhole);

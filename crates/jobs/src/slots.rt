@@ -1,11 +1,10 @@
 // The sixteen slots: whether a copy is free, and what a crash closes.
 ghost use Rattle.std.specs.Prelude.{◌≡◌, List, ℕ};
-ghost use Rattle.copies.specs.Columns.{lent, SameColumns};
+ghost use Rattle.copies.specs.Tables.{tables};
 ghost use Rattle.jobs.specs.Slots.{free, closed_at, count_at};
 ghost use Rattle.jobs.specs.Calls.{stepped, outcome, crash};
 
 use crate::Job;
-use copies::Lent;
 use words::{Answer, JOBS};
 
 // Whether no job locks the copy of a series at a station.
@@ -39,10 +38,10 @@ pub fn close_station(jobs: &mut [Job; JOBS], station: u32) -> u32
 
 // 16 CRASH: the station is down, its jobs are closed; the value is how many.
 #[tactic(auto, using(copies::proofs::Guards::chain), unfolding(crate::specs::Calls::crash, copies::specs::Calls::crash, words::specs::Tests::refuse_if, words::specs::Tests::non))]
-pub fn crash(jobs: &mut [Job; JOBS], columns: &mut Lent<'_>, station: u32) -> Answer
-    ensures same { SameColumns columns.old columns.new }
-    ensures leaves { (out : List ℕ) → outcome (stepped result jobs.new) (lent columns.new) out ≡ crash (lent columns.old) jobs.old out station }
+pub fn crash(jobs: &mut [Job; JOBS], up: &mut [u32], station: u32) -> Answer
+    ensures { (fs ls ks vs ns rt rk rv gs out : List ℕ) → outcome (stepped result jobs.new) (tables fs ls ks vs ns rt rk rv gs up.new) out
+        ≡ crash (tables fs ls ks vs ns rt rk rv gs up.old) jobs.old out station }
 {
-    copies::crash(columns, station)?;
+    copies::crash(up, station)?;
     Ok(close_station(jobs, station))
 }

@@ -8,10 +8,10 @@ use Rattle.copies.proofs.Guards.{chain}
 use Rattle.copies.proofs.Filled.{row_filled}
 use Rattle.copies.proofs.series.open_series.Goals as goal
 
-pub returns-clause-leaves : goal.returns-clause-leaves
+pub returns : goal.returns
 unfolding open_series open_in opened bad_opening bad_copy short_opener refuse_if non
-returns-clause-leaves c =
+returns c ns rt rk rv gs =
     let row = c.args.series * 8 in
-    let kinds = row_filled 8 c.args.columns.now.kinds.now _ row _ (c.fill.ensures.after (λ y e. e)) (grind (arith, chain)) in
-    let values = row_filled 8 c.args.columns.now.values.now _ row c.args.first (c.fill-2.ensures.after (λ y e. e)) (grind (arith, chain)) in
+    let kinds = row_filled 8 c.args.kinds.now _ row _ (c.fill.ensures.after (λ y e. e)) (grind (arith, chain)) in
+    let values = row_filled 8 c.args.values.now _ row c.args.first (c.fill-2.ensures.after (λ y e. e)) (grind (arith, chain)) in
     grind (arith, chain)

@@ -2,9 +2,9 @@
 use Prim.Native.Nat.{◌≤◌}
 use mathlib.Core.Path.{◌≡◌}
 use Rattle.words.specs.Tests.{count_below}
-use Rattle.copies.specs.Columns.{lent}
-use Rattle.copies.specs.Tables.{series_at, held}
+use mathlib.Core.List.{[]}
+use Rattle.copies.specs.Tables.{series_in, held}
 use Rattle.copies.proofs.station.held_count.Given as goal
 
 abbrev pub invariant-loop-s : goal.invariant-loop-s
-invariant-loop-s l = (l.count ≤ l.s) × (l.count ≡ count_below l.s (λ s. held (series_at (lent l.columns) s) l.station))
+invariant-loop-s l = (l.count ≤ l.s) × (l.count ≡ count_below l.s (λ s. held (series_in [] [] l.kinds [] [] [] [] [] [] s) l.station))

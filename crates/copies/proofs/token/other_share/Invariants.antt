@@ -3,10 +3,10 @@ use mathlib.Core.Path.{◌≡◌}
 use lib.Dec.{eqb}
 use Rattle.words.specs.Numbers.{share}
 use Rattle.words.specs.Tests.{non, ◌and◌, some_below}
-use Rattle.copies.specs.Columns.{lent}
-use Rattle.copies.specs.Tables.{series_at, kind}
+use mathlib.Core.List.{[]}
+use Rattle.copies.specs.Tables.{series_in, kind}
 use Rattle.copies.proofs.token.other_share.Given as goal
 
 abbrev pub invariant-loop-n : goal.invariant-loop-n
 invariant-loop-n l =
-    l.some ≡ some_below l.n (λ m. non (eqb m l.station) and eqb (kind (series_at (lent l.columns) l.series) m) share)
+    l.some ≡ some_below l.n (λ m. non (eqb m l.station) and eqb (kind (series_in [] [] l.kinds [] [] [] [] [] [] l.series) m) share)

@@ -8,7 +8,7 @@ use Rattle.events.proofs.dispatch.crash_event.Goals as goal
 pub returns-then-not-is_bad-clause-leaves : goal.returns-then-not-is_bad-clause-leaves
 returns-then-not-is_bad-clause-leaves c out crash =
     step_crash _ _ _ _ _ _ _ (c.is_bad.ensures _) (not-true _ (ap not c.if-not-is_bad.true)) crash
-    (c.crash.ensures.leaves _)
+    (c.crash.ensures _ _ _ _ _ _ _ _ _ _)
 
 pub returns-clause-leaves : goal.returns-clause-leaves
 returns-clause-leaves c out crash = crash_bad _ _ _ _ _ (c.is_bad.ensures _) (not-false _ (ap not c.if-not-is_bad.false))

@@ -27,7 +27,7 @@ returns-in-6-clause-leaves c bs same = rw (c.in-6.is, kept_slot bs _ _ same) (an
 
 pub returns-in-7-clause-leaves : goal.returns-in-7-clause-leaves
 unfolding job_turn
-returns-in-7-clause-leaves c bs same = rw c.in-7.is (c.commit.ensures.leaves bs same)
+returns-in-7-clause-leaves c bs same = rw c.in-7.is (c.commit.ensures _ _ _ _ _ _ _ _ bs same)
 
 pub returns-in-8-clause-leaves : goal.returns-in-8-clause-leaves
 unfolding job_turn
