@@ -2,13 +2,14 @@
 -- Assumes nothing.
 use Prim.Native.Nat.{ℕ, ◌+◌, ◌≤◌, ◌<◌}
 use native.Mathlib.Omega.{arith}
-use mathlib.Core.Path.{◌≡◌, refl, subst}
+use mathlib.Core.Path.{◌≡◌, refl, ap, subst}
 use mathlib.Core.Logic.{◌≢◌}
+use lib.Dec.{eqb}
 use lib.ListN.{get_or}
 use lib.Seq.{get_or-set_same, get_or-set_other, set-get_or}
 use Rattle.words.specs.Numbers.{station_count, series_count, place_count, void, share, exclusive}
 use Rattle.copies.specs.declared.Kept.{Kept}
-use Rattle.copies.specs.Tables.{Copies, Series, series_at, kept_at, place, kind, value, sent_count, rel_kind, rel_value}
+use Rattle.copies.specs.Tables.{Copies, Series, series_at, kept_at, place, is_up, kind, value, sent_count, rel_kind, rel_value}
 use Rattle.copies.specs.Steps.{put_kind, opened, raised, released, sent_off, demoted, shared, dropped, promoted, arrived, deleted, marked}
 use Rattle.copies.proofs.There.{there, there_cases}
 use Rattle.copies.proofs.Long.{Long}
@@ -183,6 +184,14 @@ pub record Marks (t t' : Copies) (n mark : ℕ) : Type 0 where
   pub here : get_or t'.up n 0 ≡ mark
   pub elsewhere : (m : ℕ) → m ≢ n → get_or t'.up m 0 ≡ get_or t.up m 0
   pub only : OnlyStated t t'
+
+-- station n is up where its mark is 1
+pub marks_here : {t t' : Copies} {n mark : ℕ} → Marks t t' n mark → is_up t' n ≡ eqb mark 1
+marks_here e = ap (λ (k : ℕ). eqb k 1) e.here
+
+-- the others are up where they were
+pub marks_elsewhere : {t t' : Copies} {n mark : ℕ} → Marks t t' n mark → (m : ℕ) → m ≢ n → is_up t' m ≡ is_up t m
+marks_elsewhere e m ne = ap (λ (k : ℕ). eqb k 1) (e.elsewhere m ne)
 
 -- CRASH with mark 0, RESTART with mark 1
 pub after_marked : {t : Copies} {n : ℕ} → Long t → n < station_count → (mark : ℕ) → Marks t (marked t n mark) n mark

@@ -2,14 +2,15 @@
 -- Assumes nothing.
 use Prim.Native.Nat.{ℕ, ◌<◌}
 use native.Mathlib.Omega.{arith}
-use mathlib.Core.Path.{◌≡◌, refl, ◌∙◌}
+use mathlib.Core.Path.{◌≡◌, refl, ap, ◌∙◌}
 use mathlib.Core.Logic.{◌≢◌}
 use mathlib.Core.List.{List}
+use lib.Dec.{eqb}
 use lib.ListN.{get_or, set}
 use lib.Seq.{get_or-set_same, get_or-set_other}
 use Rattle.words.specs.Numbers.{station_count, series_count, place_count, received_count}
 use Rattle.copies.specs.declared.Kept.{Kept}
-use Rattle.copies.specs.Tables.{Copies, tables, Series, series_at, kept_at, place, short_copies}
+use Rattle.copies.specs.Tables.{Copies, tables, Series, series_at, kept_at, place, short_copies, is_up}
 use Rattle.copies.proofs.There.{there, there_cases}
 use Rattle.copies.proofs.Same.{Same}
 use Rattle.copies.proofs.Long.{Long, long, long_short}
@@ -57,6 +58,10 @@ only_short o =
 -- so the tables stay long enough
 pub only_long : {t t' : Copies} → OnlyStated t t' → Long t → Long t'
 only_long o h = long (only_short o ∙ long_short h)
+
+-- the stations that were up are up
+pub leaves_up : {t t' : Copies} {s : ℕ} {r : Series} → Leaves t t' s r → (n : ℕ) → is_up t' n ≡ is_up t n
+leaves_up e n = ap (λ (l : List ℕ). eqb (get_or l n 0) 1) e.up
 
 -- ---- what one station keeps
 -- the tables in which station n keeps a of series s, and with other received numbers

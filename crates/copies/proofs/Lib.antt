@@ -1,5 +1,6 @@
 -- what the calls' proofs share
 pub mod Guards
+pub mod Messages
 pub mod Filled
 pub mod SameColumns
 pub mod Reading

@@ -3,7 +3,7 @@ use Prim.Native.Nat.{ℕ, ◌+◌, ◌*◌, ◌^◌, ◌≤◌, ◌<◌}
 use native.Mathlib.Nat.{pow-suc, pow-le-pow_right}
 use native.Mathlib.Numerals.{add-one}
 use native.Mathlib.Omega.{arith}
-use mathlib.Core.Path.{◌≡◌, refl}
+use mathlib.Core.Path.{◌≡◌, refl, ap, ◌∙◌}
 use mathlib.Core.Bool.{Bool, true, false, not, ◌||◌}
 use mathlib.Core.List.{List}
 use lib.Dec.{eqb, leb}
@@ -14,7 +14,7 @@ use Rattle.words.specs.Numbers.{station_count, series_count, place_count}
 use Rattle.words.specs.Tests.{non, ◌or◌, sum_below, some_below}
 use Rattle.words.proofs.Laws.{or_true, some_none, some_end}
 use Rattle.copies.proofs.Guards.{and_is, chain}
-use Rattle.copies.specs.Tables.{Copies, series_at, place, is_open, kind, value}
+use Rattle.copies.specs.Tables.{Copies, series_at, place, is_open, is_up, kind, value}
 use Rattle.copies.specs.Steps.{is_beyond}
 use Rattle.copies.specs.Calls.{read, bad_copy, beyond}
 
@@ -41,6 +41,10 @@ pub ruleset ways = (read_short, read_bad, read_at, chain)
 -- whether a series is open
 pub read_open : (t : Copies) (s : ℕ) (r : Bool) → series_count ≤ length t.firsts → s < series_count → r ≡ non (eqb (read series_count t.firsts (leb series_count s) s) 0) → r ≡ is_open (series_at t s)
 read_open t s r l h e = rw (read_at series_count t.firsts (leb series_count s) s l (lt-leb _ _ h)) e
+
+-- whether a station is up
+pub read_up : (t : Copies) (n : ℕ) (r : Bool) → station_count ≤ length t.up → n < station_count → r ≡ eqb (read station_count t.up (leb station_count n) n) 1 → r ≡ is_up t n
+read_up t n r l h e = rw (read_at station_count t.up (leb station_count n) n l (lt-leb _ _ h)) e
 
 -- there is such a copy: no refusal 3
 pub copy_good : (s n : ℕ) → s < series_count → n < station_count → bad_copy s n ≡ false
@@ -94,3 +98,7 @@ bit_more n = rw (add-one n) (pow-suc 2 n)
 -- the bit of a station fits a byte
 pub bit_small : (n : ℕ) → n < 8 → 2 ^ n ≤ 128
 bit_small n l = let few : n ≤ 7 = omega arith in pow-le-pow_right (omega arith) few
+
+-- and past the last station a byte is full
+pub bit_end : (n bit : ℕ) → bit ≡ 2 ^ n → n ≤ 8 → 8 ≤ n → bit ≡ 256
+bit_end n bit p l m = let same : n ≡ 8 = omega arith in p ∙ ap (λ (k : ℕ). 2 ^ k) same

@@ -50,32 +50,19 @@ module _ (t : Copies) (s : ℕ) where
   unfolding W5_kept
   kept_rows = simp all_and
 
+  -- its last number and the rows, one after the other, are W5's test of a series that isn't open
+  pub closed_rows : (q a b c d e f g : Bool) → a ≡ row t.kinds s → b ≡ row t.values s → c ≡ row t.sent s → d ≡ row t.rel_to s → e ≡ row t.rel_kind s → f ≡ row t.rel_value s → g ≡ zeros t.received (s * station_count * station_count) (station_count * station_count) → q ≡ (eqb (get_or t.lasts s 0) 0 && (a && b && c && d && e && f && g)) → q ≡ W5_closed (series_at t s)
+  unfolding W5_closed ◌and◌
+  closed_rows q a b c d e f g pa pb pc pd pe pf pg is =
+      rw (all_and station_count (λ n. W5_kept ((series_at t s).kept n)) (W5_received (series_at t s)), kept_rows, ← received_rows, ← pa, ← pb, ← pc, ← pd, ← pe, ← pf, ← pg) is
+
   module _ (h : Long t) (hs : s < series_count) where
     -- a row of a column that is long enough, as the code cuts it
     row_is : (l : List ℕ) → series_count * station_count ≤ length l → part_zeros l (s * station_count) (s * station_count + station_count) ≡ row l s
     row_is l fits = part_is l (s * station_count) (s * station_count + station_count) station_count refl (omega arith)
 
-    -- its last number and the rows, one after the other, are W5's test of a series that isn't open
-    pub closed_rows : (q a b c d e f g : Bool) → a ≡ part_zeros t.kinds (s * station_count) (s * station_count + station_count) → b ≡ part_zeros t.values (s * station_count) (s * station_count + station_count) → c ≡ part_zeros t.sent (s * station_count) (s * station_count + station_count) → d ≡ part_zeros t.rel_to (s * station_count) (s * station_count + station_count) → e ≡ part_zeros t.rel_kind (s * station_count) (s * station_count + station_count) → f ≡ part_zeros t.rel_value (s * station_count) (s * station_count + station_count) → g ≡ part_zeros t.received (s * station_count * station_count) ((s * station_count + station_count) * station_count) → q ≡ (eqb (get_or t.lasts s 0) 0 && (a && b && c && d && e && f && g)) → q ≡ W5_closed (series_at t s)
-    unfolding W5_closed ◌and◌
-    closed_rows q a b c d e f g pa pb pc pd pe pf pg is =
+    -- the same of the parts that the code cuts
+    pub closed_parts : (q a b c d e f g : Bool) → a ≡ part_zeros t.kinds (s * station_count) (s * station_count + station_count) → b ≡ part_zeros t.values (s * station_count) (s * station_count + station_count) → c ≡ part_zeros t.sent (s * station_count) (s * station_count + station_count) → d ≡ part_zeros t.rel_to (s * station_count) (s * station_count + station_count) → e ≡ part_zeros t.rel_kind (s * station_count) (s * station_count + station_count) → f ≡ part_zeros t.rel_value (s * station_count) (s * station_count + station_count) → g ≡ part_zeros t.received (s * station_count * station_count) ((s * station_count + station_count) * station_count) → q ≡ (eqb (get_or t.lasts s 0) 0 && (a && b && c && d && e && f && g)) → q ≡ W5_closed (series_at t s)
+    closed_parts q a b c d e f g pa pb pc pd pe pf pg is =
         let received = part_is t.received (s * station_count * station_count) ((s * station_count + station_count) * station_count) (station_count * station_count) (omega arith) (omega (arith, h.received)) in
-        rw (
-          all_and station_count (λ n. W5_kept ((series_at t s).kept n)) (W5_received (series_at t s)),
-          kept_rows,
-          ← received_rows,
-          ← row_is t.kinds h.kinds,
-          ← row_is t.values h.values,
-          ← row_is t.sent h.sent,
-          ← row_is t.rel_to h.rel_to,
-          ← row_is t.rel_kind h.rel_kind,
-          ← row_is t.rel_value h.rel_value,
-          ← received,
-          ← pa,
-          ← pb,
-          ← pc,
-          ← pd,
-          ← pe,
-          ← pf,
-          ← pg,
-        ) is
+        closed_rows q a b c d e f g (pa ∙ row_is t.kinds h.kinds) (pb ∙ row_is t.values h.values) (pc ∙ row_is t.sent h.sent) (pd ∙ row_is t.rel_to h.rel_to) (pe ∙ row_is t.rel_kind h.rel_kind) (pf ∙ row_is t.rel_value h.rel_value) (pg ∙ received) is

@@ -1,6 +1,6 @@
 -- COMMIT: where all that a job has drawn fits, storing its lock places one by one comes to its draws committed and shown.
 -- Assumes nothing.
-use Prim.Native.Nat.{ℕ, zero, suc, ◌+◌, ◌*◌, ◌<◌}
+use Prim.Native.Nat.{ℕ, zero, suc, ◌+◌, ◌*◌, ◌≤◌, ◌<◌}
 use native.Mathlib.Nat.{zero-add, add-zero}
 use native.Mathlib.Numerals.{add-one, add-two}
 use native.Mathlib.Decide.{ℕ_discrete}
@@ -97,6 +97,11 @@ module _ (n : ℕ) (l : Lock) where
   unfolding store_one
   one_stored k t out ne = rw (ne_eqb _ _ ne, add-one (3 * k), add-two)
 
+  -- at most one draw more is counted
+  pub one_count : (x y : Store) → y ≡ store_one n l x → y.count ≤ x.count + 1
+  unfolding store_one
+  one_count x y e = rw e (dite (ℕ_discrete l.drawn 0) (λ z. rw (eq-eqb _ _ z) (omega arith)) (λ ne. rw (ne_eqb _ _ ne) (omega arith)))
+
 -- ---- the loop over the places of a job
 -- no turn yet
 pub store_none : (b : Job) (x : Store) → store_first b 0 x ≡ x
@@ -107,6 +112,10 @@ store_none b x = refl
 pub store_next : (b : Job) (i : ℕ) (x : Store) → store_first b (i + 1) x ≡ store_one b.station (lock_at b i) (store_first b i x)
 unfolding store_first
 store_next b i x = rw add-one
+
+-- the loop is at the last place
+pub store_end : (b : Job) (n i : ℕ) (x z : Store) → i ≤ n → n ≤ i → x ≡ store_first b i z → x ≡ store_first b n z
+store_end b n i x z le ge e = let same : n ≡ i = omega arith in rw same e
 
 -- ---- the places of a job, from the front
 -- the lock at place i

@@ -27,6 +27,13 @@ wrong_first true k j flaw e = e
 wrong_first false None j flaw e = cc
 wrong_first false (Some rule) j flaw e = e
 
+-- a walk that found a short column: both find one, whatever the slots are
+short_first : (a b : Bool) (k j : Option Rule) → Err Short ≡ cond a (Err Short) (found_by k) → Err Short ≡ cond (a or b) (Err Short) (found_by (k or_else j))
+unfolding found_by ◌or◌
+short_first true b k j e = e
+short_first false b None j e = cc
+short_first false b (Some rule) j e = cc
+
 -- where it found nothing, the second's answer is that of both
 whole_first : (a : Bool) (k j : Option Rule) (r : Result (Unit {0}) Flaw) → cond a (Err Short) (found_by k) ≡ Ok tt → r ≡ found_by j → r ≡ cond (a or false) (Err Short) (found_by (k or_else j))
 unfolding ◌or◌ ◌or_else◌
@@ -39,6 +46,11 @@ long_for_jobs t e =
     let l = long e in
     rw (le-ltb _ series_count l.firsts, le-ltb _ series_count l.lasts, le-ltb _ place_count l.kinds, le-ltb _ place_count l.values)
     (le-ltb _ station_count l.up)
+
+-- refusal 1, of any number of slots
+pub finds_short : (t : Copies) (bs : List Job) (found : Result (Unit {0}) Flaw) → found ≡ check_copies t → found ≡ Err Short → Err Short ≡ check (plant t bs)
+unfolding check_copies check short_tables
+finds_short t bs found e h = short_first (short_copies t) (short_jobs bs) _ _ (sym h ∙ e)
 
 module _ (t : Copies) (bs : List Job) (sixteen : length bs ≡ job_count) where
   -- the slots stand in an array of sixteen

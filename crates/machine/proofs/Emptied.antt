@@ -1,20 +1,23 @@
 -- Tables emptied column by column, and the slots of zeros. Assumes nothing.
 use Rattle.std.specs.Prelude.{Ok, Err}
-use Prim.Native.Nat.{ℕ, ◌≤◌}
-use native.Mathlib.Nat.{zero-add}
+use Prim.Native.Nat.{ℕ, zero, suc, ◌+◌, ◌≤◌}
+use native.Mathlib.Nat.{zero-add, eq-or-lt_of_le, le_of_suc-le-suc}
+use native.Mathlib.Numerals.{add-one}
 use native.Mathlib.Omega.{arith}
 use mathlib.Core.Path.{◌≡◌, refl, sym, ap, ◌∙◌}
+use mathlib.Core.Logic.{⊎_elim}
 use mathlib.Core.Bool.{Bool, true, false, true≢false, cond, not}
 use mathlib.Core.List.{List, ◌++◌, append-nil}
 use lib.Dec.{ltb}
-use lib.ListN.{length, take, drop, replicate}
-use lib.Seq.{sets, sets-eq, drop-length}
+use lib.ListN.{length, take, drop, set, replicate}
+use lib.Seq.{sets, sets-eq, set_out, length-sets, drop-length}
 use Rattle.std.proofs.lemmas.List.{length-replicate, length-take-le}
 use borrow.Author.Tests.{le-ltb}
 use Rattle.words.specs.declared.Refusal.TheVariants.{Short}
 use Rattle.words.specs.Numbers.{station_count, series_count, job_count, place_count, received_count}
 use Rattle.words.specs.Tests.{◌or◌}
 use Rattle.copies.specs.Tables.{Copies, tables, short_copies}
+use Rattle.copies.proofs.Filled.{row_next}
 use Rattle.jobs.specs.declared.Job.{Job}
 use Rattle.jobs.specs.Job.{no_job}
 use Rattle.jobs.specs.Slots.{short_jobs}
@@ -31,6 +34,25 @@ filled_part size v l x e fits =
     let long : length (take size l) ≡ size = length-take-le size l fits in
     let count : length (replicate size v) ≡ size = length-replicate size v in
     rw (e, long, sets-eq (replicate size v) l 0 (omega arith), zero-add, count) refl
+
+-- one entry more
+pub fill_next : (l : List ℕ) (n j v : ℕ) (x : List ℕ) → x ≡ sets l 0 (replicate n v) → j ≡ n + 1 → set x n v ≡ sets l 0 (replicate j v)
+fill_next l n j v x p e = rw zero-add at (row_next l 0 n j v x p e)
+
+-- what is written past the end is nowhere
+fill_past : (k : ℕ) (l : List ℕ) (n v : ℕ) → length l ≤ n → n ≤ k → sets l 0 (replicate n v) ≡ sets l 0 (replicate k v)
+fill_past zero l n v past le = let none : n ≡ 0 = omega arith in rw none
+fill_past (suc k) l n v past le =
+    ⊎_elim (λ e. rw e)
+    (λ lt. fill_past k l n v past (le_of_suc-le-suc lt) ∙ sym (set_out _ k v (out (le_of_suc-le-suc lt))) ∙ fill_next l k (suc k) v _ refl (sym (add-one k)))
+    (eq-or-lt_of_le le)
+  where
+    out : n ≤ k → length (sets l 0 (replicate k v)) ≤ k
+    out h = rw (length-sets l 0 (replicate k v)) (omega arith)
+
+-- the column ends before so many entries are written
+pub fill_stop : (k : ℕ) (l : List ℕ) (n v : ℕ) (x : List ℕ) → length x ≤ n → length x ≡ length l → n ≤ k → x ≡ sets l 0 (replicate n v) → x ≡ sets l 0 (replicate k v)
+fill_stop k l n v x past same le e = e ∙ fill_past k l n v (omega arith) le
 
 -- ---- the columns
 -- the same columns are the same tables
