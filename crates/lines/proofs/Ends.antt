@@ -1,13 +1,14 @@
 -- Laws of a text's lines: where one ends, and what was found of one. Assumes nothing.
-use Prim.Native.Nat.{ℕ, ◌+◌, ◌-◌, ◌≤◌, ◌<◌}
+use Prim.Native.Nat.{ℕ, suc, ◌+◌, ◌-◌, ◌≤◌, ◌<◌}
 use mathlib.Core.Path.{◌≡◌, refl, ap, sym, ◌∙◌}
 use mathlib.Core.Bool.{Bool, true, false, not, cond}
 use mathlib.Core.List.{List}
 use native.Mathlib.Omega.{arith}
+use native.Mathlib.Numerals.{add-one}
 use lib.Dec.{ltb}
-use lib.ListN.{length, take, drop, length-drop}
-use lib.Seq.{take_all}
-use borrow.Author.Tests.{lt-ltb, le-ltb, ltb-true, ltb-false}
+use lib.ListN.{length, get_or, take, drop, length-drop}
+use lib.Seq.{take_all, drop-cons}
+use borrow.Author.Tests.{ne_eqb, lt-ltb, le-ltb, ltb-true, ltb-false}
 use Rattle.std.specs.Prelude.{Option, Some, None, position, ◌==◌}
 use Rattle.std.specs.List.{position_or_len}
 use Rattle.std.proofs.lemmas.Option.{none-some, same_Some}
@@ -20,6 +21,12 @@ use Rattle.lines.specs.Texts.{until_end, line_end, line_at}
 pub end_start : (t : List ℕ) (at : ℕ) → line_end t at ≡ at + until_end (drop at t)
 unfolding line_end
 end_start t at = refl
+
+-- at a position that the line goes on at, X is its end; a byte that is no LF: the line goes on after it
+pub end_on : (t : List ℕ) (i : ℕ) {X : ℕ} → X ≡ i + until_end (drop i t) → i < length t → (get_or t i 0 ≡ LF → ⊥) → (j : ℕ) → j ≡ i + 1 → X ≡ j + until_end (drop j t)
+end_on t i e h b j q =
+    let z : until_end (drop i t) ≡ suc (until_end (drop (suc i) t)) = rw (drop-cons t i 0 h, ne_eqb (get_or t i 0) LF b) in
+    rw (q, add-one) (omega arith)
 
 -- an LF, as the library looks for the first
 abbrev pub is_end : ℕ → Bool

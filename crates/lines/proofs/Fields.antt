@@ -1,7 +1,7 @@
 -- Laws of event lines: how many fields a kind has, and a field at a position. Assumes nothing.
 use Prim.Native.Nat.{ℕ, zero, suc, ◌+◌, ◌≤◌, ◌<◌, max, zero-le}
 use mathlib.Core.Path.{◌≡◌, refl, ap, sym, ◌∙◌}
-use mathlib.Core.Bool.{Bool, true, false}
+use mathlib.Core.Bool.{Bool, true, false, cond}
 use mathlib.Core.List.{List, [], ◌∷◌, map}
 use native.Mathlib.Omega.{arith}
 use native.Mathlib.Nat.{le-max_left, le-max_right, le_trans}
@@ -9,7 +9,8 @@ use lib.ListN.{length, get_or, take, get_or-eq_default, get_or-map}
 use lib.Seq.{take_all, length-take-le}
 use lib.Dec.{leb}
 use borrow.Author.Tests.{lt-ltb, leb-true, leb-false}
-use Rattle.std.specs.Prelude.{None}
+use Rattle.std.specs.Prelude.{Option, None}
+use Rattle.rulebook.specs.declared.Event.{Event}
 use Rattle.rulebook.specs.Events.{field_table, RESTART}
 use Rattle.lines.specs.EventLines.{longest_line, field_count, event_line}
 
@@ -38,9 +39,14 @@ pub count_most : (kind : ℕ) → field_count kind ≤ 4
 count_most kind = rw (← count_at kind) (most_is (map length field_table) kind)
 
 -- a line over 64 bytes says no event
-line_long : (line : List ℕ) → longest_line < length line → None ≡ event_line line
+pub line_long : (line : List ℕ) → longest_line < length line → None ≡ event_line line
 unfolding event_line
 line_long line h = rw (lt-ltb longest_line (length line) h)
+
+-- no event, whether or not it is too long
+either_bad : (b : Bool) → None ≡ cond {A = Option Event} b None None
+either_bad true = refl
+either_bad false = refl
 
 -- so of a line only the first 65 bytes tell what it says
 pub event_front : (line : List ℕ) → event_line (take (longest_line + 1) line) ≡ event_line line
