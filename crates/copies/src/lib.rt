@@ -1,6 +1,6 @@
 // Copies and transfers: the lower layer, which knows no jobs. What its tables and calls mean stands in specs/.
 // Every call checks lengths and ranges itself and takes any tables; `free` says that no job locks the copy.
-// A call that may change the columns promises that they stay the same ones (`SameColumns`): it stores into what it was lent.
+// A call that changes columns is lent those that it uses, each to be read or for changes; one that only reads is lent all ten (`Seen`).
 #![tactic(auto)]
 
 ghost use Rattle.std.specs.Prelude.{◌≡◌};

@@ -1,5 +1,4 @@
 // DEMOTE, DROP and PROMOTE: a station changes the kind of its own copy.
-// The lengths stand column by column: a call asks SHORT only of the columns that it uses, and `Long` would ask for all ten.
 #![tactic(auto, using(crate::proofs::Guards::chain), unfolding(crate::specs::Calls::demote, crate::specs::Calls::demote_in, crate::specs::Calls::short_holder, crate::specs::Calls::bad_copy, crate::specs::Steps::demoted, words::specs::Tests::refuse_if, words::specs::Tests::non, crate::specs::Calls::drop, crate::specs::Calls::drop_in, crate::specs::Steps::dropped, crate::specs::Calls::promote, crate::specs::Calls::promote_in, crate::specs::Calls::short_promoter, crate::specs::Steps::promoted))]
 
 ghost use Rattle.std.specs.Prelude.{◌≡◌, List, [], ℕ, ◌<◌, ◌≤◌, length};

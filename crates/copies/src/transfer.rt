@@ -1,5 +1,4 @@
 // SEND, SHARE, GRANT and ACK: a token goes from station to station by a Release, a message and an acknowledgment.
-// The lengths stand column by column: a call asks SHORT only of the columns that it uses, and `Long` would ask for all ten.
 #![tactic(auto, using(crate::proofs::Guards::chain), unfolding(crate::specs::Steps::released, crate::specs::Steps::is_spent, words::specs::Tests::refuse_if, words::specs::Tests::non, crate::specs::Calls::send, crate::specs::Calls::send_in, crate::specs::Calls::short_sender, crate::specs::Calls::bad_transfer, crate::specs::Steps::sent_off, crate::specs::Calls::send_share, crate::specs::Calls::share_in, crate::specs::Steps::shared, crate::specs::Calls::grant, crate::specs::Calls::grant_in, crate::specs::Calls::short_receiver, crate::specs::Calls::bad_message, crate::specs::Steps::no_grant, crate::specs::Steps::is_repeat, crate::specs::Steps::arrived, crate::specs::Calls::ack, crate::specs::Calls::ack_in, crate::specs::Calls::short_source, crate::specs::Steps::no_ack, crate::specs::Steps::matches, crate::specs::Steps::deleted))]
 
 ghost use Rattle.std.specs.Prelude.{◌≡◌, List, [], ℕ, ◌+◌, ◌<◌, ◌≤◌, length};

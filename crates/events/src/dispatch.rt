@@ -20,13 +20,14 @@ use rulebook::{
 };
 use words::{Answer, JOBS, Refusal, Serial};
 
-// An event that no job takes part in; `free` says that no job locks the copy. Each call takes fields of its own, so a table of closures would be
+// An event that no job takes part in; `free` says that no job locks the copy. Each call takes columns and fields of its own, so a table of closures would be
 // no plainer than this switch, nor would one of the jobs' calls.
 fn copy_event(columns: &mut Lent<'_>, free: bool, event: Event) -> Answer
     ensures same { SameColumns columns.old columns.new }
     ensures leaves { outcome result (lent columns.new) ≡ copy_event (lent columns.old) free event }
 {
     let Event { kind, a, b, c, d } = event;
+    // each column by itself, to be lent on as the call uses it
     let firsts = &mut *columns.firsts;
     let lasts = &mut *columns.lasts;
     let kinds = &mut *columns.kinds;
@@ -81,6 +82,7 @@ fn job_event(
         DRAW => jobs::draw(job, &columns.seen(), a, b, c),
         READ => jobs::read(*job, &columns.seen(), a, b),
         COMMIT => {
+            // read only: as `&*`, or in the call, the borrow checker has no rule for it beside the other column
             let lasts = &mut *columns.lasts;
             jobs::commit(job, lasts, columns.values, out, a)
         }

@@ -16,7 +16,7 @@ use copies::{Seen, beyond, raise, value};
 use words::{Answer, GREATEST_SERIAL, JOBS, LOCKS, OUTPUT, PLACES, Refusal, SERIES, Serial};
 
 // The two columns that COMMIT uses, to be read.
-fn used<'a>(lasts: &'a [Serial], values: &'a [Serial]) -> Seen<'a>
+fn to_read<'a>(lasts: &'a [Serial], values: &'a [Serial]) -> Seen<'a>
     ensures { (result.lasts.now ≡ lasts.now) × (result.values.now ≡ values.now) }
 {
     Seen {
@@ -83,7 +83,7 @@ fn store_one(
     if drawn == 0 {
         return 0;
     }
-    let first = value(&used(lasts, values), lock.series, station);
+    let first = value(&to_read(lasts, values), lock.series, station);
     out[3 * count] = lock.series;
     out[3 * count + 1] = first;
     out[3 * count + 2] = drawn;
@@ -128,7 +128,7 @@ pub fn commit(
     if !job.is_open() {
         return Err(Refusal::None);
     }
-    if !fits(*job, &used(lasts, values)) {
+    if !fits(*job, &to_read(lasts, values)) {
         return Err(Refusal::NotWhole);
     }
     let count = store_all(*job, lasts, values, out);

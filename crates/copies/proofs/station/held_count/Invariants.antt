@@ -1,8 +1,8 @@
 -- `copies::station::held_count` meets its contract: the count is the spec's sum so far, and at most one a series. Assumes nothing.
 use Prim.Native.Nat.{◌≤◌}
 use mathlib.Core.Path.{◌≡◌}
-use Rattle.words.specs.Tests.{count_below}
 use mathlib.Core.List.{[]}
+use Rattle.words.specs.Tests.{count_below}
 use Rattle.copies.specs.Tables.{series_in, held}
 use Rattle.copies.proofs.station.held_count.Given as goal
 

@@ -1,7 +1,7 @@
 -- `copies::token::under_way` meets its contract: the flag is the spec's walk so far. Assumes nothing.
 use mathlib.Core.Path.{◌≡◌}
-use Rattle.words.specs.Tests.{some_below}
 use mathlib.Core.List.{[]}
+use Rattle.words.specs.Tests.{some_below}
 use Rattle.copies.specs.Tables.{series_in, undelivered}
 use Rattle.copies.proofs.token.under_way.Given as goal
 
