@@ -2,6 +2,7 @@
 pub mod Guards
 pub mod Messages
 pub mod Filled
+pub mod Sending
 pub mod SameColumns
 pub mod Reading
 -- what the walk's proofs share
